@@ -1,0 +1,1 @@
+-- definitions of the plain types

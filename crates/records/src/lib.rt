@@ -1,0 +1,18 @@
+//! The plain types of a site: its files, its steps, what it is asked and what it answers.
+#![tactic(auto)]
+
+mod event;
+mod file;
+mod reply;
+mod step;
+
+pub use event::{Asked, AttributeChange, Daemon, Event};
+pub use file::{
+    CopyRec, CopySlot, CopySlots, FileRec, Flag, ReleaseKind, Run, Section, SiteTexts, StageKind,
+    VolumeRec,
+};
+pub use reply::{
+    CommandFile, FileRow, FileState, IdleCause, LineRefusal, QueueRow, Reply, Rule, SetRow,
+    SummaryRow, VolumeRow, Vsn,
+};
+pub use step::{Member, Step, StepKind, VolumeEnd};

@@ -1,0 +1,6 @@
+//! Bytes and lists as contracts see them.
+#![tactic(auto)]
+
+mod bytes;
+
+pub use bytes::{Bytes, List};
