@@ -1,0 +1,6 @@
+//! Free blocks of the cache.
+#![tactic(auto)]
+
+mod space;
+
+pub use space::blocks_needed;
