@@ -5,7 +5,7 @@ use Rattle.bank.specs.View.{View, IsImage, IsSound, Unchanged, Touches, Wrote, I
 use Rattle.bank.proofs.Moments.{weakened, joined}
 
 module _ (area p n : ℕ) where
-  image_is_torn : (v : View) (c : Image) → IsImage v c → IsTornImage v area p n c
+  pub image_is_torn : (v : View) (c : Image) → IsImage v c → IsTornImage v area p n c
   image_is_torn v c image = record { torn = (c area, image area, λ k out. refl); others = λ a ne. image a }
 
   pub torn_image : (old new : View) (c : Image) → ((d : Content) → new.may_leave area d → (e : Content) × old.may_leave area e × SameOutside p n e d)

@@ -1,3 +1,8 @@
 pub mod Content
+pub mod Crash
+pub mod Failing
+pub mod Memory
+pub mod Past
+pub mod Sound
 pub mod View
 pub mod Inside

@@ -1,0 +1,174 @@
+//! A store in memory, which records its calls and fails by a list.
+
+ghost use Rattle.std.specs.Prelude.{◌≡◌, ◌⊎◌, ◌+◌, ◌^◌, ◌<◌, ◌≤◌, ℕ, true, false, [], ◌∷◌, ◌++◌, reverse, take, IsTrue, length, IfOk, IsOkAnd, OnOk, OnErr, IsErr};
+ghost use Rattle.site_text.specs.Causes.{HasCause};
+ghost use Rattle.bank.specs.Content.{Stands, Same};
+ghost use Rattle.bank.specs.Past.{content_of};
+ghost use Rattle.bank.specs.Failing.{same_kind, count_of, is_listed};
+
+use crate::bank::{Bank, BankFailed};
+use crate::call::{BankCall, Call, FailAt, same_kind};
+use site_text::{Bytes, List};
+use std::alloc::{AllocError, Global};
+
+/// A store in memory. It keeps a record of its calls, and fails those of a list; one that fails changes nothing.
+/// A call that is refused for want of memory counts as a fault, and is not in the record.
+/// The moment is the number of recorded calls.
+#[derive(Drop)]
+pub struct MemoryBank {
+    alloc: Global,
+    before: List<Call>,
+    calls: List<Call>,
+    fail: List<FailAt>,
+    faults: u64,
+    last_fault: u32,
+}
+
+// Fills a piece with what some calls, the oldest first, have left of an area that began with zeros.
+fn fill(before: &[Call], calls: &[Call], area: u32, place: u64, piece: &mut [u8])
+    requires { place + length piece.old < 2 ^ 63 }
+    ensures { Stands (content_of (content_of (λ a k. 0) (reverse before.now)) (reverse calls.now) area) place piece.new }
+{
+    for byte in piece.iter_mut() {
+        *byte = 0;
+    }
+    for call in before {
+        call.overlay(area, place, piece);
+    }
+    for call in calls {
+        call.overlay(area, place, piece);
+    }
+}
+
+// How many calls of this kind an area had.
+fn count_of(calls: &[Call], area: u32, kind: BankCall) -> u64
+    ensures { result ≡ count_of calls.now area kind }
+{
+    calls
+        .iter()
+        .filter(|c| c.area == area && same_kind(c.kind, kind))
+        .count() as u64
+}
+
+// Whether the next call of this kind on this area is to fail.
+fn is_listed(fail: &[FailAt], calls: &[Call], area: u32, kind: BankCall) -> bool
+    ensures { result ≡ is_listed fail.now calls.now area kind }
+{
+    fail.iter().any(|f| {
+        f.area == area && same_kind(f.call, kind) && f.number == count_of(calls, area, kind) + 1
+    })
+}
+
+impl MemoryBank {
+    ghost use Rattle.bank.specs.declared.call.Call.{Call};
+    ghost use Rattle.bank.specs.Memory.{began, IsAnew};
+
+    /// A store of zeros, with the calls that are to fail. It takes no memory.
+    pub fn new(alloc: Global, fail: List<FailAt>) -> Result<Self, AllocError>
+        ensures zeros { IsOkAnd result (λ m. (a k : ℕ) → began m a k ≡ 0) }
+        ensures anew { IsOkAnd result (λ m. IsAnew m fail) }
+    {
+        Ok(MemoryBank {
+            alloc,
+            before: List::new(alloc),
+            calls: List::new(alloc),
+            fail,
+            faults: 0,
+            last_fault: 0,
+        })
+    }
+
+    /// The calls so far, the oldest first.
+    pub fn calls(&self) -> &[Call]
+        ensures { result.now ≡ self.now.calls }
+    {
+        self.calls.as_slice()
+    }
+
+    // Counts a fault.
+    fn refuse(&mut self, area: u32) -> Result<(), BankFailed>
+        ensures kept { self.new ≡ record self.old { faults = self.new.faults; last_fault = area } }
+        ensures cause { HasCause self.old.faults self.new.faults result }
+        ensures err { IsErr result }
+    {
+        self.faults = self.faults.saturating_add(1);
+        self.last_fault = area;
+        Err(BankFailed {})
+    }
+
+    // Records a call, and says whether it is to do its work.
+    fn note(
+        &mut self,
+        kind: BankCall,
+        area: u32,
+        place: u64,
+        bytes: &[u8],
+    ) -> Result<(), BankFailed>
+        ensures before { self.new.before ≡ self.old.before }
+        ensures ok { OnOk result (self.new.calls ≡ self.old.calls
+            ++ record { area = area; kind = kind; place = place; bytes = bytes.now; done = true } ∷ []) }
+        ensures err { OnErr result ((self.new.calls ≡ self.old.calls) ⊎ (self.new.calls ≡ self.old.calls
+            ++ record { area = area; kind = kind; place = place; bytes = bytes.now; done = false } ∷ [])) }
+        ensures listed { IsTrue (is_listed self.old.fail self.old.calls area kind) → IsErr result }
+        ensures fail { self.new.fail ≡ self.old.fail }
+        ensures cause { HasCause self.old.faults self.new.faults result }
+        ensures area { OnErr result (self.new.last_fault ≡ area) }
+        ensures last { OnOk result (self.new.last_fault ≡ self.old.last_fault) }
+    {
+        let done = !is_listed(self.fail.as_slice(), self.calls.as_slice(), area, kind);
+        let Ok(bytes) = Bytes::from_slice(self.alloc, bytes) else {
+            return self.refuse(area);
+        };
+        let call = Call {
+            area,
+            kind,
+            place,
+            bytes,
+            done,
+        };
+        if self.calls.push(call).is_err() {
+            return self.refuse(area);
+        }
+        if done { Ok(()) } else { self.refuse(area) }
+    }
+}
+
+impl Bank for MemoryBank {
+    ghost use Rattle.bank.specs.Past.{view_of};
+    ghost use Rattle.bank.specs.Sound.{sound_of};
+    ghost use Rattle.bank.specs.Memory.{began, past_of};
+
+    ghost tells = { true };
+
+    ghost view = { λ m. view_of (began m) (past_of m) };
+
+    ghost faults = { λ m. m.faults };
+
+    ghost last_fault = { λ m. m.last_fault };
+
+    ghost sound = { λ m told. sound_of (began m) (past_of m) };
+
+    fn read(&mut self, area: u32, place: u64, into: &mut [u8]) -> Result<(), BankFailed> {
+        self.note(BankCall::Read, area, place, &[])?;
+        fill(
+            self.before.as_slice(),
+            self.calls.as_slice(),
+            area,
+            place,
+            into,
+        );
+        Ok(())
+    }
+
+    fn write(&mut self, area: u32, place: u64, bytes: &[u8]) -> Result<(), BankFailed> {
+        self.note(BankCall::Write, area, place, bytes)
+    }
+
+    fn sync(&mut self, area: u32) -> Result<(), BankFailed> {
+        self.note(BankCall::Sync, area, 0, &[])
+    }
+
+    fn moment(&self) -> u64 {
+        self.calls.len() as u64
+    }
+}
