@@ -1,1 +1,2 @@
 -- definitions of the plain types
+pub mod Paths

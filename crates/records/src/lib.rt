@@ -3,6 +3,7 @@
 
 mod event;
 mod file;
+mod names;
 mod reply;
 mod step;
 
@@ -11,6 +12,7 @@ pub use file::{
     CopyRec, CopySlot, CopySlots, FileRec, Flag, ReleaseKind, Run, Section, SiteTexts, StageKind,
     VolumeRec,
 };
+pub use names::{is_legal_name, is_legal_path};
 pub use reply::{
     CommandFile, FileRow, FileState, IdleCause, LineRefusal, QueueRow, Reply, Rule, SetRow,
     SummaryRow, VolumeRow, Vsn,
