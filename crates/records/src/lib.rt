@@ -1,8 +1,11 @@
 //! The plain types of a site: its files, its steps, what it is asked and what it answers.
 #![tactic(auto)]
 
+mod decode;
 mod event;
 mod file;
+mod names;
+mod refusal;
 mod reply;
 mod step;
 
@@ -11,6 +14,8 @@ pub use file::{
     CopyRec, CopySlot, CopySlots, FileRec, Flag, ReleaseKind, Run, Section, SiteTexts, StageKind,
     VolumeRec,
 };
+pub use names::{is_legal_name, is_legal_path};
+pub use refusal::StepRefusal;
 pub use reply::{
     CommandFile, FileRow, FileState, IdleCause, LineRefusal, QueueRow, Reply, Rule, SetRow,
     SummaryRow, VolumeRow, Vsn,
