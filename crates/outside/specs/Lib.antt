@@ -1,0 +1,4 @@
+pub mod Folders
+pub mod Moments
+pub mod Refusals
+pub mod Streams
