@@ -7,6 +7,9 @@ ghost use Rattle.outside.specs.declared.folder.NamedText.{NamedText};
 
 use site_text::Bytes;
 
+/// The longest front of a text that is read: one byte more than a text may have.
+pub const LONGEST_READ: usize = 65_537;
+
 /// A name and the text that stands under it.
 #[derive(Drop)]
 pub struct NamedText {

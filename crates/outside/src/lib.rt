@@ -4,10 +4,17 @@
 
 mod clock;
 mod folder;
+mod memory;
 mod patterns;
 mod stream;
 
 pub use clock::Clock;
 pub use folder::{Folder, FolderFault, NamedText};
+pub use memory::{
+    LiteralPattern, LiteralPatterns, MemoryClock, MemoryFolder, MemorySink, MemorySource,
+};
 pub use patterns::{PatternFault, Patterns};
 pub use stream::{Failed, Sink, Source, write_all};
+
+#[cfg(test)]
+mod tests;
