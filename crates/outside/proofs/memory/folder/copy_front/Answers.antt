@@ -1,0 +1,6 @@
+use Rattle.std.proofs.Common.{◌∙◌, ap, take, ℕ}
+use Rattle.std.proofs.lemmas.List.{take_min}
+use Rattle.outside.proofs.memory.folder.copy_front.Goals as goal
+
+pub returns-in-Ok : goal.returns-in-Ok
+returns-in-Ok c = c.in-Ok.ensures ∙ ap (λ (n : ℕ). take n c.args.text.now) c.min-length.ensures ∙ take_min 65537 c.args.text.now
