@@ -1,0 +1,4 @@
+pub mod ReadCalls
+pub mod RecordLaws
+pub mod Append
+pub mod Reopening
