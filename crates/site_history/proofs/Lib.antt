@@ -1,0 +1,4 @@
+pub mod HistoryLaws
+pub mod FileLaws
+pub mod SiteLaws
+pub mod Turns

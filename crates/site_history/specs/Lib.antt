@@ -1,0 +1,5 @@
+pub mod Site
+pub mod Steps
+pub mod Histories
+pub mod Answers
+pub mod Worlds

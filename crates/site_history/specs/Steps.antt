@@ -1,0 +1,123 @@
+-- The steps of a site: which may come, and what each changes.
+use Rattle.std.specs.Prelude.{◌≡◌, ℕ, ◌+◌, ◌<◌, ◌≤◌, Bool, true, false, IsTrue, Option, Some, None, List, [], ◌∷◌, length, sum_by, MatchOption}
+use Rattle.std.specs.Option.{option_map_or}
+use Rattle.records.specs.declared.file.FileRec.{FileRec}
+use Rattle.records.specs.declared.file.Run.{Run}
+use Rattle.records.specs.declared.file.CopySlots.{CopySlots}
+use Rattle.records.specs.declared.file.CopySlot.TheVariants.{Empty}
+use Rattle.records.specs.declared.file.ReleaseKind.{ReleaseKind}
+use Rattle.records.specs.declared.file.StageKind.{StageKind}
+use Rattle.records.specs.declared.step.Step.{Step}
+use Rattle.records.specs.declared.step.StepKind.{StepKind}
+use Rattle.records.specs.declared.step.StepKind.TheVariants.{Put}
+use Rattle.records.specs.Paths.{is_legal_path, is_legal_name}
+use Rattle.cache_space.specs.Blocks.{blocks_for, is_in_runs}
+use Rattle.site_history.specs.Site.{Fields, FileBytes, Site, file_at, held_runs, with_file, with_bytes}
+
+-- a step of a history: a put comes with the bytes of its file
+pub record HistoryStep : Type 0 where
+  pub step : Step
+  pub bytes : List ℕ
+
+-- what a put stores
+pub record PutOf : Type 0 where
+  pub inode : ℕ
+  pub path : List ℕ
+  pub owner : List ℕ
+  pub group : List ℕ
+  pub length : ℕ
+  pub runs : List Run
+
+-- no copy
+abbrev pub no_copies : CopySlots
+no_copies = record { first = Empty; second = Empty; third = Empty; fourth = Empty }
+
+-- The file that a put leaves: a new one, or one whose bytes, owner and group are replaced. It is whole, and its three
+-- moments are that of the put. A replaced file keeps its attributes and its copies, which are those of an earlier
+-- generation from then on.
+abbrev pub stored_file : Option FileRec → ℕ → PutOf → FileRec
+stored_file None moment put = record {
+  inode = put.inode; path = put.path; owner = put.owner; group = put.group;
+  modified = moment; accessed = moment; resided = moment; generation = 1;
+  length = put.length; cached = put.length;
+  release = ReleaseKind.Default; partial = 0; stage = StageKind.Default;
+  runs = put.runs; copies = no_copies }
+stored_file (Some file) moment put = record file {
+  owner = put.owner; group = put.group;
+  modified = moment; accessed = moment; resided = moment; generation = file.generation + 1;
+  length = put.length; cached = put.length;
+  runs = put.runs }
+
+-- the inode of a put: that of the file that is there, or the next one
+abbrev pub inode_for : Fields → List ℕ → ℕ
+inode_for fields path = option_map_or (λ (file : FileRec). file.inode) (file_at path fields.files) fields.next_inode
+
+-- where a file is new, the next inode is used up
+abbrev pub next_after : Fields → List ℕ → ℕ
+next_after fields path = option_map_or (λ (file : FileRec). fields.next_inode) (file_at path fields.files) (fields.next_inode + 1)
+
+abbrev pub put_effect : ℕ → PutOf → Fields → Fields
+put_effect moment put fields = record {
+  files = with_file (stored_file (file_at put.path fields.files) moment put) fields.files;
+  next_inode = next_after fields put.path;
+  moment = moment;
+  blocks = fields.blocks }
+
+-- what a step changes of the fields; a kind that is not served changes nothing, and is never legal
+abbrev pub fields_after : Step → Fields → Fields
+fields_after step fields = by_kind step.kind
+  where
+    by_kind : StepKind → Fields
+    by_kind (Put inode path owner group length runs) = put_effect step.moment
+        (record { inode = inode; path = path; owner = owner; group = group; length = length; runs = runs }) fields
+    by_kind _ = fields
+
+-- what it changes of the bytes
+abbrev pub contents_after : HistoryStep → List FileBytes → List FileBytes
+contents_after made contents = by_kind made.step.kind
+  where
+    by_kind : StepKind → List FileBytes
+    by_kind (Put inode path owner group length runs) = with_bytes (record { inode = inode; bytes = made.bytes }) contents
+    by_kind _ = contents
+
+abbrev pub effect : HistoryStep → Site → Site
+effect made site = record { fields = fields_after made.step site.fields; contents = contents_after made site.contents }
+
+-- ascending runs of at least one block, with a gap between each two
+abbrev pub AreMaximal : List Run → Type 0
+AreMaximal [] = Unit {0}
+AreMaximal (run ∷ []) = 0 < run.count
+AreMaximal (run ∷ (next ∷ runs)) = (0 < run.count) × (run.first + run.count < next.first) × AreMaximal (next ∷ runs)
+
+-- blocks of the cache that no file holds
+abbrev pub AreFree : Fields → List Run → Type 0
+AreFree fields runs = (block : ℕ) → is_in_runs runs block ≡ true → (block < fields.blocks) × (is_in_runs (held_runs fields.files) block ≡ false)
+
+-- A put may come where path and names are legal, the length is at most 16,777,216 bytes, the inode is that of the path's
+-- file or the next one, where a further file fits, and the runs are maximal runs of free blocks, as many as the length needs.
+pub record IsLegalPut (fields : Fields) (put : PutOf) : Type 0 where
+  pub path : IsTrue (is_legal_path put.path)
+  pub owner : IsTrue (is_legal_name put.owner)
+  pub group : IsTrue (is_legal_name put.group)
+  pub small : put.length ≤ 16777216
+  pub inode : put.inode ≡ inode_for fields put.path
+  pub fits : MatchOption (file_at put.path fields.files) ((length fields.files < 65536) × (fields.next_inode ≤ 4294967294)) (λ _. Unit {0})
+  pub maximal : AreMaximal put.runs
+  pub free : AreFree fields put.runs
+  pub blocks : sum_by (λ (run : Run). run.count) put.runs ≡ blocks_for put.length
+
+-- the step may come: its moment is at least the last one, and its kind's rule holds
+abbrev pub IsLegal : Fields → Step → Type 0
+IsLegal fields step = (fields.moment ≤ step.moment) × by_kind step.kind
+  where
+    by_kind : StepKind → Type 0
+    by_kind (Put inode path owner group length runs) = IsLegalPut fields (record { inode = inode; path = path; owner = owner; group = group; length = length; runs = runs })
+    by_kind _ = ⊥
+
+-- a put has as many bytes as its length says, and no other step has any
+abbrev pub HasBytes : HistoryStep → Type 0
+HasBytes made = by_kind made.step.kind
+  where
+    by_kind : StepKind → Type 0
+    by_kind (Put inode path owner group size runs) = length made.bytes ≡ size
+    by_kind _ = made.bytes ≡ []

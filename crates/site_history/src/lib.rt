@@ -1,0 +1,2 @@
+//! Sites, steps and histories, and what an event does to a world.
+#![tactic(auto)]
