@@ -1,18 +1,106 @@
-//! Free blocks of the cache.
+//! The space of the cache.
 
-ghost use Rattle.std.specs.Prelude.{◌≡◌};
-ghost use Rattle.cache_space.specs.Blocks.{blocks_for};
+ghost use Rattle.std.specs.Prelude.{◌≡◌, ℕ, ◌+◌, ◌<◌, ◌≤◌, ◌↔◌, length, List as Seq, [], ◌++◌, IfOk, OnOk, IsTrue};
+ghost use Rattle.cache_space.specs.Blocks.{free_blocks, lowest_runs};
+ghost use Rattle.cache_space.specs.Space.{taken_by, AreThere, AreApart, AreFree};
 
+use crate::flags;
+use crate::refusal::SpaceRefusal;
 use records::Run;
+use site_text::List;
+use std::alloc::{AllocError, Global};
+use std::marker::Model;
 
-/// How many blocks of 4,096 bytes so many bytes need.
-pub fn blocks_needed(bytes: u32) -> u32
-    ensures { result ≡ blocks_for bytes }
-{
-    ((bytes as u64 + 4095) / 4096) as u32
+/// The blocks of the cache, from 0 on, each taken or free. Contracts see for each whether it is
+/// taken. It keeps the allocator that its constructor was given.
+#[derive(Drop)]
+pub struct CacheSpace {
+    taken: Vec<bool>,
+    free: u32,
 }
 
-/// The number of the block behind a run.
-pub fn end_of(run: &Run) -> u64 {
-    run.first as u64 + run.count as u64
+impl Model for CacheSpace {
+    ghost use Rattle.std.specs.Prelude.{◌≡◌, ◌<◌, ◌^◌, List as Seq, Bool, not, length, count_by};
+
+    ghost Value = { Seq Bool };
+
+    ghost view = { λ s. s.taken.items };
+
+    ghost invariant = { λ s. (length s.taken.items < 2 ^ 32) × (s.free ≡ count_by not s.taken.items) };
+}
+
+impl CacheSpace {
+    /// So many blocks, all free.
+    pub fn new(alloc: Global, blocks: u32) -> Result<Self, AllocError>
+        ensures { IfOk result (λ space. space ≡ taken_by blocks []) }
+    {
+        let taken = vec![in alloc; false; blocks as usize]?;
+        Ok(CacheSpace {
+            taken,
+            free: blocks,
+        })
+    }
+
+    /// How many blocks there are.
+    pub fn blocks(&self) -> u32
+        ensures { result ≡ length self.now }
+    {
+        self.taken.len() as u32
+    }
+
+    /// How many of them are free.
+    pub fn free(&self) -> u32
+        ensures { (total : ℕ) (held : Seq Run) → self.now ≡ taken_by total held
+            → result ≡ length (free_blocks total held) }
+    {
+        self.free
+    }
+
+    /// The lowest free blocks that none of the runs `but` has, as maximal runs. Where there are
+    /// fewer than are wanted it answers NoSpace, and never NoMemory.
+    pub fn lowest(&self, blocks: u32, but: &[Run]) -> Result<List<Run>, SpaceRefusal>
+        ensures lowest { (total : ℕ) (held : Seq Run) → self.now ≡ taken_by total held
+            → IfOk result (λ runs. runs ≡ lowest_runs total (held ++ but.now) blocks) }
+        ensures enough { (total : ℕ) (held : Seq Run) → self.now ≡ taken_by total held
+            → OnOk result (blocks ≤ length (free_blocks total (held ++ but.now))) }
+        ensures no_space { (total : ℕ) (held : Seq Run) → self.now ≡ taken_by total held
+            → ((result ≡ Err SpaceRefusal.NoSpace) ↔ (length (free_blocks total (held ++ but.now)) < blocks)) }
+    {
+        if blocks > self.free {
+            return Err(SpaceRefusal::NoSpace);
+        }
+        let alloc = *self.taken.allocator();
+        match flags::lowest_open(alloc, self.taken.as_slice(), but, blocks) {
+            Ok(runs) => Ok(List::from_vec(runs)),
+            Err(refusal) => Err(refusal),
+        }
+    }
+
+    /// Whether all blocks of the runs are there and free.
+    pub fn all_free(&self, runs: &[Run]) -> bool
+        ensures { (total : ℕ) (held : Seq Run) → self.now ≡ taken_by total held
+            → (IsTrue result ↔ AreFree total held runs.now) }
+    {
+        flags::are_free_runs(self.taken.as_slice(), runs)
+    }
+
+    /// Takes the blocks of the runs, which have to be there. One that is taken stays so.
+    pub fn hold(&mut self, runs: &[Run])
+        requires { AreThere (length self.old) runs.now }
+        ensures { (total : ℕ) (held : Seq Run) → self.old ≡ taken_by total held
+            → self.new ≡ taken_by total (held ++ runs.now) }
+    {
+        let changed = flags::take_runs(&mut self.taken, runs);
+        self.free -= changed;
+    }
+
+    /// Frees the blocks of the runs, which have to be there.
+    pub fn give(&mut self, runs: &[Run])
+        requires { AreThere (length self.old) runs.now }
+        ensures { (total : ℕ) (kept : Seq Run) → self.old ≡ taken_by total (kept ++ runs.now)
+            → AreApart kept runs.now → self.new ≡ taken_by total kept }
+    {
+        let changed = flags::free_runs(&mut self.taken, runs);
+        self.free += changed;
+    }
 }
