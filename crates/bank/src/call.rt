@@ -1,9 +1,10 @@
 //! The calls of a store in memory, as it records them.
 
-ghost use Rattle.std.specs.Prelude.{◌≡◌, ℕ, ◌+◌, ◌-◌, ◌^◌, ◌<◌, ◌≤◌, length, slice_index, if◌then◌else◌};
+ghost use Rattle.std.specs.Prelude.{◌≡◌, ℕ, ◌+◌, ◌-◌, ◌^◌, ◌<◌, ◌≤◌, length, replicate, slice_index, if◌then◌else◌, IfOk};
 ghost use Rattle.bank.specs.Failing.{same_kind};
 
 use site_text::Bytes;
+use std::alloc::{AllocError, Global};
 
 /// A kind of call.
 #[derive(Clone, Copy, Debug, PartialEq, Eq)]
@@ -56,6 +57,33 @@ impl Call {
         ensures { result ≡ is_sync_of self.now area }
     {
         self.done && self.kind == BankCall::Sync && self.area == area
+    }
+
+    /// A copy.
+    pub(crate) fn copy(&self) -> Result<Self, AllocError>
+        ensures { IfOk result (λ c. c ≡ self.now) }
+    {
+        Ok(self.with_bytes(self.bytes.copy()?))
+    }
+
+    /// A copy with other bytes in place of those that it wrote.
+    pub(crate) fn filled(&self, alloc: Global, byte: u8) -> Result<Self, AllocError>
+        ensures { IfOk result (λ c. c ≡ record self.now { bytes = replicate (length self.now.bytes) byte }) }
+    {
+        let bytes = vec![in alloc; byte; self.bytes.len()]?;
+        Ok(self.with_bytes(Bytes::from_vec(bytes)))
+    }
+
+    fn with_bytes(&self, bytes: Bytes) -> Self
+        ensures { result ≡ record self.now { bytes = bytes } }
+    {
+        Call {
+            area: self.area,
+            kind: self.kind,
+            place: self.place,
+            bytes,
+            done: self.done,
+        }
     }
 
     /// Puts what it wrote into a piece of an area that begins at a place.

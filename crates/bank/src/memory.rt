@@ -8,6 +8,7 @@ ghost use Rattle.bank.specs.Failing.{same_kind, count_of, is_listed};
 
 use crate::bank::{Bank, BankFailed};
 use crate::call::{BankCall, Call, FailAt, same_kind};
+use crate::crash::add_left;
 use site_text::{Bytes, List};
 use std::alloc::{AllocError, Global};
 
@@ -61,7 +62,9 @@ fn is_listed(fail: &[FailAt], calls: &[Call], area: u32, kind: BankCall) -> bool
 
 impl MemoryBank {
     ghost use Rattle.bank.specs.declared.call.Call.{Call};
-    ghost use Rattle.bank.specs.Memory.{began, IsAnew};
+    ghost use Rattle.bank.specs.Past.{IsImageAt};
+    ghost use Rattle.bank.specs.Crash.{picked};
+    ghost use Rattle.bank.specs.Memory.{began, past_at, IsAnew};
 
     /// A store of zeros, with the calls that are to fail. It takes no memory.
     pub fn new(alloc: Global, fail: List<FailAt>) -> Result<Self, AllocError>
@@ -83,6 +86,31 @@ impl MemoryBank {
         ensures { result.now ≡ self.now.calls }
     {
         self.calls.as_slice()
+    }
+
+    /// The store after a crash at a moment, or at the last call's if it comes earlier: one of the images that may be
+    /// left then. Pick 0 is without each write that was not synced, 1 with all of them, any other with the byte 0xA5
+    /// all over the range of each. Its calls start anew, and none of them is to fail.
+    pub fn crashed(&self, moment: u64, pick: u8) -> Result<Self, AllocError>
+        ensures image { IfOk result (λ m. IsImageAt (began self.now) (past_at self.now moment) (began m)) }
+        ensures picked { IfOk result (λ m. (a k : ℕ) → began m a k ≡ picked pick (began self.now) (past_at self.now moment) a k) }
+        ensures anew { IfOk result (λ m. IsAnew m []) }
+    {
+        let alloc = self.alloc;
+        let count = self.calls.len().min(moment as usize);
+        let mut before = Vec::with_capacity(alloc, self.before.len())?;
+        for call in self.before.as_slice() {
+            before.push(call.copy()?)?;
+        }
+        let before = add_left(alloc, before, &self.calls.as_slice()[..count], pick)?;
+        Ok(MemoryBank {
+            alloc,
+            before: List::from_vec(before),
+            calls: List::new(alloc),
+            fail: List::new(alloc),
+            faults: 0,
+            last_fault: 0,
+        })
     }
 
     // Counts a fault.
