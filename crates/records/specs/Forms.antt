@@ -78,7 +78,7 @@ size = number_of w32 0 (2 ^ 32 - 1)
 
 abbrev pub TextRefuses : List ℕ → StepRefusal → Type 0
 TextRefuses bytes e = NumberRefuses w32 0 (2 ^ 32 - 1) bytes e
-  ⊎ ((n : ℕ) × (rest : List ℕ) × Begins size bytes n rest × (length rest < n) × (e ≡ Truncated))
+    ⊎ ((n : ℕ) × (rest : List ℕ) × Begins size bytes n rest × (length rest < n) × (e ≡ Truncated))
 
 unfoldable pub text_at : List ℕ → Result (List ℕ × List ℕ) StepRefusal
 text_at bytes = number_within w32 0 (2 ^ 32 - 1) bytes >>= λ n. if nat_lt (length n.1) n.0 then Err Truncated else Ok (take n.0 n.1, drop n.0 n.1)
@@ -127,7 +127,7 @@ ItemsRefuse item (suc n) bytes e = item.Refuses bytes e ⊎ ((x : _) × (rest : 
 
 abbrev pub ListRefuses : {A : Type 0} → ℕ → ℕ → Form A → List ℕ → StepRefusal → Type 0
 ListRefuses least most item bytes e = NumberRefuses w32 least most bytes e
-  ⊎ ((n : ℕ) × (rest : List ℕ) × Begins (count least most) bytes n rest × ItemsRefuse item n rest e)
+    ⊎ ((n : ℕ) × (rest : List ℕ) × Begins (count least most) bytes n rest × ItemsRefuse item n rest e)
 
 unfoldable pub list_at : {A : Type 0} → ℕ → ℕ → Form A → List ℕ → Result (List A × List ℕ) StepRefusal
 list_at least most item bytes = number_within w32 least most bytes >>= λ n. items_at item n.0 n.1

@@ -3,6 +3,7 @@
 
 mod decode;
 mod event;
+mod fields;
 mod file;
 mod names;
 mod refusal;
