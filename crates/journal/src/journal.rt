@@ -6,9 +6,10 @@ ghost use Rattle.bank.specs.View.{Wrote, OnlyRead, OnlyContent, LeavesOnly};
 ghost use Rattle.journal.specs.Records.{IsPayload, HoldsRecords, AllHold, IsBeforeOrAfter, IsBadAt, end_of};
 ghost use Rattle.journal.specs.Refusals.{IfBadRecord};
 
+use crate::gate::open_gate;
 use crate::reading::read_records;
 use crate::refusal::{AppendRefusal, JournalRefusal};
-use crate::writing::{BUFFER_ROOM, open_gate, stage};
+use crate::writing::{BUFFER_ROOM, stage};
 use bank::Bank;
 use site_text::{Bytes, List};
 use std::alloc::Global;
@@ -61,6 +62,7 @@ impl Journal {
 
         // A bad record is answered where one stands, and there nothing else than it, a fault or want of memory.
         ensures bad { IsTrue B.tells → IfErr result (λ e. IfBadRecord e (λ place payloads. IsBadAt ((B.view bank.new).content 0) place size payloads)) }
+        ensures bad_place { IfErr result (λ e. IfBadRecord e (λ place payloads. (place ≡ end_of 0 payloads) × (place < size) × All IsPayload payloads)) }
         ensures exact { IsTrue B.tells → (place : ℕ) (payloads : Seq (Seq ℕ)) → IsBadAt ((B.view bank.new).content 0) place size payloads → OnOk result ⊥ }
 
         // A fault is answered only where the store counted one, and the last was in area 0.

@@ -67,6 +67,7 @@ pub fn read_records<B: Bank>(
     ensures within { IfOk result (λ r. r.0 ≤ size) }
     ensures count { IfOk result (λ r. length r.1 ≤ r.0) }
     ensures bad { IsTrue B.tells → IfErr result (λ e. IfBadRecord e (λ place payloads. IsBadAt ((B.view bank.new).content 0) place size payloads)) }
+    ensures bad_place { IfErr result (λ e. IfBadRecord e (λ place payloads. (place ≡ end_of 0 payloads) × (place < size) × All IsPayload payloads)) }
     ensures later { B.faults bank.old ≤ B.faults bank.new }
     ensures fault { IsErrOf result JournalRefusal.BankFault → Rose (B.faults bank.old) (B.faults bank.new) }
     ensures area { IsErrOf result JournalRefusal.BankFault → B.last_fault bank.new ≡ 0 }

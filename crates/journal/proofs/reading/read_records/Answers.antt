@@ -5,7 +5,7 @@ use Rattle.std.proofs.lemmas.List.Elements.{All-nil, All-push}
 use Rattle.bank.specs.Content.{Stands}
 use Rattle.bank.specs.View.{OnlyRead}
 use Rattle.journal.specs.Records.{AreRecords, IsPayload, end_of}
-use Rattle.journal.proofs.ReadCalls.{read_nothing, read_then}
+use Rattle.bank.proofs.Readings.{nothing_read, read_then_read}
 use Rattle.journal.proofs.RecordLaws.{end-push}
 use Rattle.journal.proofs.Reopening.{read_record, one_more, some_has}
 use Rattle.journal.proofs.reading.read_records.Goals as goal
@@ -14,7 +14,7 @@ pub loop-place-init : goal.loop-place-init
 loop-place-init g c =
     let none = c.new-payloads.ensures in
     record {
-      unchanged = λ told. read_nothing _ (g.met.B.Bank.sound _ told);
+      unchanged = λ told. nothing_read _ (g.met.B.Bank.sound _ told);
       records = λ told. subst (λ (l : List (List ℕ)). AreRecords ((g.B.Bank.view c.args.bank.now).content 0) 0 l c.args.size) (sym none) tt;
       payloads = subst (λ (l : List (List ℕ)). All IsPayload l) (sym none) (All-nil IsPayload);
       place = ap (λ (l : List (List ℕ)). end_of 0 l) (sym none);
@@ -31,9 +31,9 @@ loop-place-preserved g c =
     let long : length c.from_vec.result ≡ c.in-Some.length =
         ap (λ (l : List ℕ). length l) c.from_vec.ensures ∙ c.in_ok-payload.ensures.length ∙ (omega (arith, c.in_ok-buffer.ensures.len)) in
     let bounded : IsPayload c.from_vec.result = (omega (arith, long), omega (arith, long)) in
-    let again = λ (told : IsTrue g.B.Bank.tells). read_then _ _ _ (c.read_head.ensures.unchanged told) (c.read_into.ensures.unchanged told) in
+    let again = λ (told : IsTrue g.B.Bank.tells). read_then_read _ _ _ (c.read_head.ensures.unchanged told) (c.read_into.ensures.unchanged told) in
     record {
-      unchanged = λ told. read_then _ _ _ (i.unchanged told) (again told);
+      unchanged = λ told. read_then_read _ _ _ (i.unchanged told) (again told);
       records = λ told.
           let head = some_has _ c.in-Some.length _ (λ (n : ℕ). (n < 2 ^ 32) × Stands ((g.B.Bank.view c.loop-place.bank).content 0) c.loop-place.place (1 ∷ to_le_bytes w32 n)) c.in-Some.is (c.in_ok-length.ensures.head told) in
           let stands : Stands ((g.B.Bank.view c.read_head.new.bank).content 0) (c.loop-place.place + 5) c.from_vec.result =

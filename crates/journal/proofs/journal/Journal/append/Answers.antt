@@ -1,7 +1,7 @@
 use Rattle.std.proofs.Common.{◌≡◌, ◌+◌, ◌≤◌, ◌∙◌, ap, length, arith, IsTrue}
 use Rattle.bank.proofs.Writes.{wrote_then, widened}
 use Rattle.journal.specs.State.{JournalState}
-use Rattle.journal.proofs.ReadCalls.{wrote_none}
+use Rattle.bank.proofs.Readings.{nothing_read, read_is_write}
 use Rattle.journal.proofs.Append.{untouched, stage_moments, gate_moments, acknowledged}
 use Rattle.journal.proofs.journal.Journal.append.Goals as goal
 
@@ -10,7 +10,7 @@ returns-then-not-has_room-clause-any_moment g c = λ told xs e hold.
     untouched _ xs _ _ e _ (g.met.B.Bank.sound _ told) hold
 
 pub returns-then-not-has_room-clause-wrote : goal.returns-then-not-has_room-clause-wrote
-returns-then-not-has_room-clause-wrote g c = λ told. wrote_none _ _ _ _ (g.met.B.Bank.sound _ told)
+returns-then-not-has_room-clause-wrote g c = λ told. read_is_write _ _ _ _ _ (nothing_read _ (g.met.B.Bank.sound _ told))
 
 pub returns-in_err-stage-clause-any_moment : goal.returns-in_err-stage-clause-any_moment
 returns-in_err-stage-clause-any_moment g c = λ told xs e hold.

@@ -1,5 +1,5 @@
 use Rattle.bank.proofs.Writes.{wrote, wrote_nothing, wrote_then}
-use Rattle.journal.proofs.writing.open_gate.Goals as goal
+use Rattle.journal.proofs.gate.open_gate.Goals as goal
 
 pub returns-in_err-write-clause-wrote : goal.returns-in_err-write-clause-wrote
 returns-in_err-write-clause-wrote g c = λ told. wrote _ _ _ _ _ (g.met.B.Bank.sound _ told) (c.write.ensures.torn told)
