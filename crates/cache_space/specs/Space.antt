@@ -1,5 +1,5 @@
 -- The cache as the runs that are held say it.
-use Rattle.std.specs.Prelude.{ℕ, ◌<◌, Bool, IsTrue, IsFalse, List, [], ◌∷◌, map, sum_by}
+use Rattle.std.specs.Prelude.{ℕ, ◌+◌, ◌<◌, ◌≤◌, Bool, IsTrue, IsFalse, List, [], ◌∷◌, map, sum_by}
 use Rattle.std.specs.List.{range_with_len}
 use Rattle.records.specs.declared.file.Run.{Run}
 use Rattle.cache_space.specs.Blocks.{is_in_runs}
@@ -28,3 +28,11 @@ blocks_in runs = sum_by (λ run. run.count) runs
 abbrev pub AreDisjoint : List Run → Type 0
 AreDisjoint [] = Unit {0}
 AreDisjoint (run ∷ runs) = AreApart (run ∷ []) runs × AreDisjoint runs
+
+-- runs from a block on that have a block each, ascend, and leave a block between one and the next, so that none can be joined
+abbrev pub AreMaximalFrom : ℕ → List Run → Type 0
+AreMaximalFrom low [] = Unit {0}
+AreMaximalFrom low (run ∷ runs) = (low ≤ run.first) × (0 < run.count) × AreMaximalFrom (run.first + run.count + 1) runs
+
+abbrev pub AreMaximal : List Run → Type 0
+AreMaximal runs = AreMaximalFrom 0 runs
