@@ -2,3 +2,4 @@ pub mod HistoryLaws
 pub mod FileLaws
 pub mod SiteLaws
 pub mod Turns
+pub mod Puts

@@ -35,6 +35,10 @@ put_step fields moment path owner group bytes = record { step = put_made fields 
 abbrev pub is_full : Fields → Bool
 is_full fields = nat_le 16384 (length fields.files) || nat_lt 4294967294 fields.next_inode
 
+-- fewer blocks are free than so many bytes need
+abbrev pub lacks_space : Fields → ℕ → Bool
+lacks_space fields size = nat_lt (length (free_blocks fields.blocks (held_runs fields.files))) (blocks_for size)
+
 -- The first rule that refuses a put of so many bytes. A path that is there is refused.
 abbrev pub put_rule : Fields → List ℕ → List ℕ → List ℕ → ℕ → Option Rule
 put_rule fields path owner group size =
@@ -43,7 +47,7 @@ put_rule fields path owner group size =
     if is_some (file_at path fields.files) then Some Exists else
     if nat_lt 16777216 size then Some TooLarge else
     if is_full fields then Some TooMany else
-    if nat_lt (length (free_blocks fields.blocks (held_runs fields.files))) (blocks_for size) then Some NoSpace else None
+    if lacks_space fields size then Some NoSpace else None
 
 abbrev pub put_answer_by : Option Rule → Fields → ℕ → List ℕ → List ℕ → List ℕ → List ℕ → Answer
 put_answer_by (Some rule) fields moment path owner group bytes = refused rule

@@ -1,5 +1,5 @@
 -- The steps of a site: which may come, and what each changes.
-use Rattle.std.specs.Prelude.{◌≡◌, ℕ, ◌+◌, ◌<◌, ◌≤◌, Bool, true, false, IsTrue, Option, Some, None, List, [], ◌∷◌, length, sum_by, MatchOption}
+use Rattle.std.specs.Prelude.{◌≡◌, ℕ, ◌+◌, ◌<◌, ◌≤◌, IsTrue, Option, Some, None, List, [], ◌∷◌, length, MatchOption}
 use Rattle.std.specs.Option.{option_map_or}
 use Rattle.records.specs.declared.file.FileRec.{FileRec}
 use Rattle.records.specs.declared.file.Run.{Run}
@@ -11,7 +11,8 @@ use Rattle.records.specs.declared.step.Step.{Step}
 use Rattle.records.specs.declared.step.StepKind.{StepKind}
 use Rattle.records.specs.declared.step.StepKind.TheVariants.{Put}
 use Rattle.records.specs.Paths.{is_legal_path, is_legal_name}
-use Rattle.cache_space.specs.Blocks.{blocks_for, is_in_runs}
+use Rattle.cache_space.specs.Blocks.{blocks_for}
+use Rattle.cache_space.specs.Space.{AreFree, AreMaximal, blocks_in}
 use Rattle.site_history.specs.Site.{Fields, FileBytes, Site, file_at, held_runs, with_file, with_bytes}
 
 -- a step of a history: a put comes with the bytes of its file
@@ -83,16 +84,6 @@ contents_after made contents = by_kind made.step.kind
 abbrev pub effect : HistoryStep → Site → Site
 effect made site = record { fields = fields_after made.step site.fields; contents = contents_after made site.contents }
 
--- ascending runs of at least one block, with a gap between each two
-abbrev pub AreMaximal : List Run → Type 0
-AreMaximal [] = Unit {0}
-AreMaximal (run ∷ []) = 0 < run.count
-AreMaximal (run ∷ (next ∷ runs)) = (0 < run.count) × (run.first + run.count < next.first) × AreMaximal (next ∷ runs)
-
--- blocks of the cache that no file holds
-abbrev pub AreFree : Fields → List Run → Type 0
-AreFree fields runs = (block : ℕ) → is_in_runs runs block ≡ true → (block < fields.blocks) × (is_in_runs (held_runs fields.files) block ≡ false)
-
 -- A put may come where path and names are legal, the length is at most 16,777,216 bytes, the inode is that of the path's
 -- file or the next one, where a further file fits, and the runs are maximal runs of free blocks, as many as the length needs.
 pub record IsLegalPut (fields : Fields) (put : PutOf) : Type 0 where
@@ -103,8 +94,8 @@ pub record IsLegalPut (fields : Fields) (put : PutOf) : Type 0 where
   pub inode : put.inode ≡ inode_for fields put.path
   pub fits : MatchOption (file_at put.path fields.files) ((length fields.files < 65536) × (fields.next_inode ≤ 4294967294)) (λ _. Unit {0})
   pub maximal : AreMaximal put.runs
-  pub free : AreFree fields put.runs
-  pub blocks : sum_by (λ (run : Run). run.count) put.runs ≡ blocks_for put.length
+  pub free : AreFree fields.blocks (held_runs fields.files) put.runs
+  pub blocks : blocks_in put.runs ≡ blocks_for put.length
 
 -- the step may come: its moment is at least the last one, and its kind's rule holds
 abbrev pub IsLegal : Fields → Step → Type 0
