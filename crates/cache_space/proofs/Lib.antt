@@ -4,4 +4,5 @@ pub mod OpenBlocks
 pub mod HeldBlocks
 pub mod LowestRuns
 pub mod UsedBlocks
+pub mod ChangedBlocks
 pub mod Extents
