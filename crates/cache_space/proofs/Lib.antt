@@ -1,6 +1,7 @@
 pub mod RunLemmas
 pub mod TakenBlocks
 pub mod OpenBlocks
+pub mod GroupLemmas
 pub mod HeldBlocks
 pub mod LowestRuns
 pub mod UsedBlocks

@@ -2,6 +2,7 @@
 #![tactic(auto)]
 
 mod flags;
+mod groups;
 mod plain;
 mod refusal;
 mod runs;
