@@ -1,7 +1,9 @@
 pub mod RunLemmas
 pub mod TakenBlocks
 pub mod OpenBlocks
+pub mod GroupLemmas
 pub mod HeldBlocks
 pub mod LowestRuns
 pub mod UsedBlocks
+pub mod ChangedBlocks
 pub mod Extents

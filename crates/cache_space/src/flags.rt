@@ -5,10 +5,9 @@ ghost use Rattle.cache_space.specs.Blocks.{is_in_run, is_in_runs, as_runs};
 ghost use Rattle.cache_space.specs.Space.{AreThere};
 ghost use Rattle.cache_space.specs.Flags.{is_open, open_blocks, Takes, Frees};
 
-use crate::refusal::SpaceRefusal;
 use crate::runs::{add_block, has_block};
 use records::Run;
-use std::alloc::{AllocError, Global};
+use std::alloc::AllocError;
 
 /// Takes the blocks of a run; answers how many of them were free.
 fn take_run(taken: &mut Vec<bool>, run: &Run) -> u32
@@ -151,33 +150,4 @@ pub fn lacking(taken: &[bool], but: &[Run], wanted: u32) -> u32
         }
     }
     left
-}
-
-/// The lowest open blocks, as maximal runs. Where there are fewer than are wanted it answers
-/// NoSpace, and never NoMemory.
-pub fn lowest_open(
-    alloc: Global,
-    taken: &[bool],
-    but: &[Run],
-    wanted: u32,
-) -> Result<Vec<Run>, SpaceRefusal>
-    requires { length taken.now < 2 ^ 32 }
-    ensures lowest { IfOk result (λ runs. runs.items ≡ as_runs (take wanted (open_blocks taken.now but.now 0 (length taken.now)))) }
-    ensures enough { OnOk result (wanted ≤ length (open_blocks taken.now but.now 0 (length taken.now))) }
-    ensures no_space { (result ≡ Err SpaceRefusal.NoSpace) ↔ (length (open_blocks taken.now but.now 0 (length taken.now)) < wanted) }
-{
-    let mut runs = Vec::new(alloc);
-    let left = match add_lowest(&mut runs, taken, but, 0, taken.len() as u32, wanted) {
-        Ok(left) => left,
-        Err(_) => {
-            if lacking(taken, but, wanted) == 0 {
-                return Err(SpaceRefusal::NoMemory);
-            }
-            return Err(SpaceRefusal::NoSpace);
-        }
-    };
-    if left > 0 {
-        return Err(SpaceRefusal::NoSpace);
-    }
-    Ok(runs)
 }

@@ -1,6 +1,7 @@
 //! Runs of blocks.
 
-ghost use Rattle.std.specs.Prelude.{◌≡◌, ℕ, ◌+◌, ◌-◌, ◌<◌, ◌^◌, List as Seq, [], ◌∷◌, ◌++◌, OnOk, OnErr};
+ghost use Rattle.std.specs.Prelude.{◌≡◌, ℕ, ◌+◌, ◌-◌, ◌<◌, ◌^◌, List as Seq, [], ◌∷◌, ◌++◌, OnOk, OnErr, ◌↔◌, IsTrue};
+ghost use Rattle.cache_space.specs.Space.{AreMaximal, blocks_in};
 ghost use Rattle.cache_space.specs.Blocks.{blocks_for, is_in_runs, as_runs};
 
 use records::Run;
@@ -45,4 +46,33 @@ pub fn add_block(runs: &mut Vec<Run>, block: u32) -> Result<(), AllocError>
         count: 1,
     })?;
     Ok(())
+}
+
+/// Whether each run has a block, and they ascend with a block between one and the next, so that
+/// none can be joined.
+pub fn are_maximal(runs: &[Run]) -> bool
+    ensures { IsTrue result ↔ AreMaximal runs.now }
+{
+    let mut low = 0;
+    for run in runs {
+        if (run.first as u64) < low || run.count == 0 {
+            return false;
+        }
+        low = end_of(run) + 1;
+    }
+    true
+}
+
+/// Whether the runs have so many blocks, one run after another.
+pub fn have_blocks(runs: &[Run], blocks: u32) -> bool
+    ensures { IsTrue result ↔ (blocks_in runs.now ≡ blocks) }
+{
+    let mut left = blocks;
+    for run in runs {
+        if run.count > left {
+            return false;
+        }
+        left -= run.count;
+    }
+    left == 0
 }

@@ -5,6 +5,7 @@ ghost use Rattle.cache_space.specs.Blocks.{free_blocks, lowest_runs};
 ghost use Rattle.cache_space.specs.Space.{taken_by, AreThere, AreApart, AreFree};
 
 use crate::flags;
+use crate::groups;
 use crate::refusal::SpaceRefusal;
 use records::Run;
 use site_text::List;
@@ -16,17 +17,19 @@ use std::marker::Model;
 #[derive(Drop)]
 pub struct CacheSpace {
     taken: Vec<bool>,
+    full: Vec<bool>,
     free: u32,
 }
 
 impl Model for CacheSpace {
-    ghost use Rattle.std.specs.Prelude.{◌≡◌, ◌<◌, ◌^◌, List as Seq, Bool, not, length, count_by};
+    ghost use Rattle.std.specs.Prelude.{List as Seq, Bool};
+    ghost use Rattle.cache_space.specs.Flags.{AreInStep};
 
     ghost Value = { Seq Bool };
 
     ghost view = { λ s. s.taken.items };
 
-    ghost invariant = { λ s. (length s.taken.items < 2 ^ 32) × (s.free ≡ count_by not s.taken.items) };
+    ghost invariant = { λ s. AreInStep s.taken.items s.full.items s.free };
 }
 
 impl CacheSpace {
@@ -35,8 +38,10 @@ impl CacheSpace {
         ensures { IfOk result (λ space. space ≡ taken_by blocks []) }
     {
         let taken = vec![in alloc; false; blocks as usize]?;
+        let full = vec![in alloc; false; groups::groups_of(blocks)]?;
         Ok(CacheSpace {
             taken,
+            full,
             free: blocks,
         })
     }
@@ -70,7 +75,8 @@ impl CacheSpace {
             return Err(SpaceRefusal::NoSpace);
         }
         let alloc = *self.taken.allocator();
-        match flags::lowest_open(alloc, self.taken.as_slice(), but, blocks) {
+        let taken = self.taken.as_slice();
+        match groups::lowest_open(alloc, taken, self.full.as_slice(), but, blocks) {
             Ok(runs) => Ok(List::from_vec(runs)),
             Err(refusal) => Err(refusal),
         }
@@ -91,6 +97,7 @@ impl CacheSpace {
             → self.new ≡ taken_by total (held ++ runs.now) }
     {
         let changed = flags::take_runs(&mut self.taken, runs);
+        groups::mark_full(&mut self.full, self.taken.as_slice(), runs);
         self.free -= changed;
     }
 
@@ -100,6 +107,7 @@ impl CacheSpace {
         ensures { (total : ℕ) (kept : Seq Run) → self.old ≡ taken_by total (kept ++ runs.now)
             → AreApart kept runs.now → self.new ≡ taken_by total kept }
     {
+        groups::clear_marks(&mut self.full, runs);
         let changed = flags::free_runs(&mut self.taken, runs);
         self.free += changed;
     }
