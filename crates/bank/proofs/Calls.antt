@@ -11,7 +11,7 @@ use Rattle.bank.specs.declared.call.BankCall.{BankCall}
 use Rattle.bank.specs.declared.call.BankCall.TheVariants.{Read, Write, Sync}
 use Rattle.bank.specs.declared.memory.MemoryBank.{MemoryBank}
 use Rattle.bank.specs.Past.{is_write, is_write_of, is_sync_of, covers, content_of, LeftAfter, Leaves, view_of}
-use Rattle.bank.specs.Memory.{zeros, began, past_of}
+use Rattle.bank.specs.Memory.{zeros, began, past_of, made}
 use Rattle.bank.specs.Sound.{not_written, leaves_same, reads_as_image}
 use Rattle.bank.proofs.Spans.{Stands-each, Stands-same}
 
@@ -63,14 +63,10 @@ module _ (start : Image) (past : List Call) (call : Call) (area : ℕ) (wrote : 
   pub stands : Stands (content_of start (call ∷ past) area) call.place call.bytes
   stands = Stands-each _ call.place call.bytes covered
 
--- a recorded call
-abbrev pub made : ℕ → BankCall → ℕ → List ℕ → Bool → Call
-made area kind place bytes done = record { area = area; kind = kind; place = place; bytes = bytes; done = done }
-
-not_done : (area place : ℕ) (kind : BankCall) (bytes : List ℕ) (a : ℕ) → is_write_of (made area kind place bytes false) a ≡ false
+not_done : (area place : ℕ) (kind : BankCall) (bytes : List ℕ) (a : ℕ) → is_write_of (made kind area place bytes false) a ≡ false
 not_done area place kind bytes a = refl
 
-no_write : (area place : ℕ) (kind : BankCall) (bytes : List ℕ) → is_write kind ≡ false → (a : ℕ) → is_write_of (made area kind place bytes true) a ≡ false
+no_write : (area place : ℕ) (kind : BankCall) (bytes : List ℕ) → is_write kind ≡ false → (a : ℕ) → is_write_of (made kind area place bytes true) a ≡ false
 no_write area place Read bytes is a = refl
 no_write area place Write bytes is a = absurd (cc)
 no_write area place Sync bytes is a = refl
@@ -84,25 +80,25 @@ module _ (m n : MemoryBank) (before : n.before ≡ m.before) where
   view_more call e = view_as (m.calls ++ call ∷ []) e ∙ ap (λ (l : List Call). view_of (began m) l) (reverse-append m.calls (call ∷ []))
 
   module _ (area place : ℕ) (bytes : List ℕ) (kind : BankCall) where
-    refused : (n.calls ≡ m.calls) ⊎ (n.calls ≡ m.calls ++ made area kind place bytes false ∷ []) → Unchanged (view_of (began m) (past_of m)) (view_of (began n) (past_of n))
+    refused : (n.calls ≡ m.calls) ⊎ (n.calls ≡ m.calls ++ made kind area place bytes false ∷ []) → Unchanged (view_of (began m) (past_of m)) (view_of (began n) (past_of n))
     refused (inl e) = subst (λ (v : View). Unchanged (view_of (began m) (past_of m)) v) (sym (view_as m.calls e)) (same_view (began m) (past_of m))
-    refused (inr e) = subst (λ (v : View). Unchanged (view_of (began m) (past_of m)) v) (sym (view_more _ e)) (unchanged (began m) (past_of m) (made area kind place bytes false) (not_done area place kind bytes))
+    refused (inr e) = subst (λ (v : View). Unchanged (view_of (began m) (past_of m)) v) (sym (view_more _ e)) (unchanged (began m) (past_of m) (made kind area place bytes false) (not_done area place kind bytes))
 
     pub kept : (r : Result (Unit {0}) BankFailed) → is_write kind ≡ false
-        → OnOk r (n.calls ≡ m.calls ++ made area kind place bytes true ∷ [])
-        → OnErr r ((n.calls ≡ m.calls) ⊎ (n.calls ≡ m.calls ++ made area kind place bytes false ∷ []))
+        → OnOk r (n.calls ≡ m.calls ++ made kind area place bytes true ∷ [])
+        → OnErr r ((n.calls ≡ m.calls) ⊎ (n.calls ≡ m.calls ++ made kind area place bytes false ∷ []))
         → Unchanged (view_of (began m) (past_of m)) (view_of (began n) (past_of n))
-    kept (Ok x) quiet ok err = subst (λ (v : View). Unchanged (view_of (began m) (past_of m)) v) (sym (view_more _ ok)) (unchanged (began m) (past_of m) (made area kind place bytes true) (no_write area place kind bytes quiet))
+    kept (Ok x) quiet ok err = subst (λ (v : View). Unchanged (view_of (began m) (past_of m)) v) (sym (view_more _ ok)) (unchanged (began m) (past_of m) (made kind area place bytes true) (no_write area place kind bytes quiet))
     kept (Err x) quiet ok err = refused err
 
-  pub durable : (area place : ℕ) (bytes : List ℕ) (r : Result (Unit {0}) BankFailed) → OnOk r (n.calls ≡ m.calls ++ made area Sync place bytes true ∷ [])
+  pub durable : (area place : ℕ) (bytes : List ℕ) (r : Result (Unit {0}) BankFailed) → OnOk r (n.calls ≡ m.calls ++ made Sync area place bytes true ∷ [])
       → OnOk r (OnlyContent area (view_of (began n) (past_of n)))
-  durable area place bytes (Ok x) ok = subst (λ (v : View). OnlyContent area v) (sym (view_more _ ok)) (only_content (began m) (past_of m) (made area Sync place bytes true) area refl (eq-eqb area area refl))
+  durable area place bytes (Ok x) ok = subst (λ (v : View). OnlyContent area v) (sym (view_more _ ok)) (only_content (began m) (past_of m) (made Sync area place bytes true) area refl (eq-eqb area area refl))
   durable area place bytes (Err x) ok = tt
 
-  pub written : (area place : ℕ) (bytes : List ℕ) (r : Result (Unit {0}) BankFailed) → OnOk r (n.calls ≡ m.calls ++ made area Write place bytes true ∷ [])
+  pub written : (area place : ℕ) (bytes : List ℕ) (r : Result (Unit {0}) BankFailed) → OnOk r (n.calls ≡ m.calls ++ made Write area place bytes true ∷ [])
       → OnOk r (Stands (content_of (began n) (past_of n) area) place bytes)
-  written area place bytes (Ok x) ok = subst (λ (v : View). Stands (v.content area) place bytes) (sym (view_more _ ok)) (stands (began m) (past_of m) (made area Write place bytes true) area (eq-eqb area area refl))
+  written area place bytes (Ok x) ok = subst (λ (v : View). Stands (v.content area) place bytes) (sym (view_more _ ok)) (stands (began m) (past_of m) (made Write area place bytes true) area (eq-eqb area area refl))
   written area place bytes (Err x) ok = tt
 
 -- what a read gives after it was recorded is what it gave before

@@ -1,19 +1,19 @@
 -- What a crash leaves, one call after another.
-use Rattle.std.proofs.Common.{◌≡◌, inl, inr, min, ℕ, ◌+◌, ◌-◌, ◌<◌, ◌≤◌, Bool, true, false, ◌&&◌, ◌||◌, ◌==◌, nat_le, nat_lt, cond, List, [], ◌∷◌, length, get_or, take, drop, reverse, refl, sym, ◌∙◌, ap, arith, suc}
+use Rattle.std.proofs.Common.{◌≡◌, inl, inr, min, ℕ, ◌+◌, ◌-◌, ◌<◌, ◌≤◌, Bool, true, false, ◌&&◌, ◌||◌, ◌==◌, nat_le, nat_lt, cond, List, [], ◌∷◌, ◌++◌, subst, length, get_or, take, drop, reverse, refl, sym, ◌∙◌, ap, arith, suc}
 use Rattle.std.specs.List.{list_any}
 use Rattle.std.proofs.lemmas.Bool.{eqb-true, cases_lt}
 use Rattle.std.proofs.lemmas.Bool.Decides.{nat_tests}
-use Rattle.std.proofs.lemmas.List.{reverse-append, take_more, take_all, length-drop}
+use Rattle.std.proofs.lemmas.List.{reverse-append, take_more, take_all, take-append-drop, length-drop}
 use Rattle.std.proofs.Math.Seq.{drop-cons}
 use Rattle.bank.specs.Content.{Image}
 use Rattle.bank.specs.declared.call.Call.{Call}
 use Rattle.bank.specs.declared.call.BankCall.{BankCall}
 use Rattle.bank.specs.declared.call.BankCall.TheVariants.{Read, Write, Sync}
-use Rattle.bank.specs.Past.{is_write, is_sync, is_write_of, is_sync_of, covers, content_of, LeftAfter, Leaves, IsImageAt}
+use Rattle.bank.specs.Past.{is_write, is_sync, is_write_of, is_sync_of, covers, content_of, LeftAfter, Leaves, IsImageAt, LeftSince}
 use Rattle.bank.specs.Crash.{dropped, filled, chosen, picked, left_of}
 use Rattle.bank.specs.declared.memory.MemoryBank.{MemoryBank}
-use Rattle.bank.specs.Memory.{zeros, began, past_at}
-use Rattle.bank.specs.Sound.{leaves_same, reads_as_image}
+use Rattle.bank.specs.Memory.{zeros, began, past_of, past_at}
+use Rattle.bank.specs.Sound.{leaves_same, reads_as_image, counts_now}
 
 -- a call is not both
 never_both : (done same : Bool) (kind : BankCall) → done && is_write kind && same ≡ true → done && is_sync kind && same ≡ false
@@ -169,3 +169,14 @@ module _ (m : MemoryBank) (pick moment count index : ℕ) (items before calls le
 
   pub left_is_image : IsImageAt (began m) (past_at m moment) (content_of zeros (reverse result))
   left_is_image a = leaves_same (began m) (past_at m moment) a _ _ (λ k. sym (left_as_picked a k)) (picked_is_image pick (began m) (past_at m moment) a)
+
+-- an image at an earlier moment
+left_later : (start : Image) (newer past : List Call) (t : ℕ) (c : Image) → t ≤ length past → IsImageAt start past c → LeftSince start (newer ++ past) t c
+left_later start [] past t c le image = counts_now start past t c le image
+left_later start (call ∷ newer) past t c le image = inr (left_later start newer past t c le image)
+
+pub left_since : (m : MemoryBank) (moment t : ℕ) (c : Image) → t ≤ length (past_at m moment) → IsImageAt (began m) (past_at m moment) c → LeftSince (began m) (past_of m) t c
+left_since m moment t c le image =
+    subst (λ (l : List Call). LeftSince (began m) l t c)
+    (sym (reverse-append (take moment m.calls) (drop moment m.calls)) ∙ ap (λ (l : List Call). reverse l) (take-append-drop moment m.calls))
+    (left_later (began m) (reverse (drop moment m.calls)) (past_at m moment) t c le image)

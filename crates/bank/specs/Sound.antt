@@ -38,7 +38,7 @@ reads_as_image start (call ∷ past) a = by_test (is_write_of call a) (is_sync_o
     by_test false true is h = not_written start call past a (sym is)
     by_test false false is h = leaves_same start past a _ _ (not_written start call past a (sym is)) h
 
-counts_now : (start : Image) (past : List Call) (t : ℕ) (c : Image) → t ≤ length past → IsImageAt start past c → LeftSince start past t c
+pub counts_now : (start : Image) (past : List Call) (t : ℕ) (c : Image) → t ≤ length past → IsImageAt start past c → LeftSince start past t c
 counts_now start [] t c le image = (le, image)
 counts_now start (call ∷ past) t c le image = inl (le, image)
 

@@ -69,3 +69,12 @@ pub record OnlyRead (old new : View) : Type 0 where
   pub content : (a : ℕ) → Same (old.content a) (new.content a)
   pub images : (a : ℕ) (c : Content) → new.may_leave a c → old.may_leave a c
   pub moments : LeavesOnly old new (IsImage old)
+
+-- of a store that tells nothing
+abbrev pub untold : View
+untold = record {
+  content = λ a k. 0;
+  may_leave = λ a c. Unit {0};
+  moment = 0;
+  left_since = λ t c. Unit {0};
+}

@@ -62,9 +62,9 @@ fn is_listed(fail: &[FailAt], calls: &[Call], area: u32, kind: BankCall) -> bool
 
 impl MemoryBank {
     ghost use Rattle.bank.specs.declared.call.Call.{Call};
-    ghost use Rattle.bank.specs.Past.{IsImageAt};
+    ghost use Rattle.bank.specs.Past.{IsImageAt, LeftSince};
     ghost use Rattle.bank.specs.Crash.{picked};
-    ghost use Rattle.bank.specs.Memory.{began, past_at, IsAnew};
+    ghost use Rattle.bank.specs.Memory.{began, past_of, past_at, IsAnew, Records};
 
     /// A store of zeros, with the calls that are to fail. It takes no memory.
     pub fn new(alloc: Global, fail: List<FailAt>) -> Result<Self, AllocError>
@@ -93,6 +93,7 @@ impl MemoryBank {
     /// all over the range of each. Its calls start anew, and none of them is to fail.
     pub fn crashed(&self, moment: u64, pick: u8) -> Result<Self, AllocError>
         ensures image { IfOk result (λ m. IsImageAt (began self.now) (past_at self.now moment) (began m)) }
+        ensures left { IfOk result (λ m. (t : ℕ) → t ≤ length (past_at self.now moment) → LeftSince (began self.now) (past_of self.now) t (began m)) }
         ensures picked { IfOk result (λ m. (a k : ℕ) → began m a k ≡ picked pick (began self.now) (past_at self.now moment) a k) }
         ensures anew { IfOk result (λ m. IsAnew m []) }
     {
@@ -132,13 +133,7 @@ impl MemoryBank {
         place: u64,
         bytes: &[u8],
     ) -> Result<(), BankFailed>
-        ensures before { self.new.before ≡ self.old.before }
-        ensures ok { OnOk result (self.new.calls ≡ self.old.calls
-            ++ record { area = area; kind = kind; place = place; bytes = bytes.now; done = true } ∷ []) }
-        ensures err { OnErr result ((self.new.calls ≡ self.old.calls) ⊎ (self.new.calls ≡ self.old.calls
-            ++ record { area = area; kind = kind; place = place; bytes = bytes.now; done = false } ∷ [])) }
-        ensures listed { IsTrue (is_listed self.old.fail self.old.calls area kind) → IsErr result }
-        ensures fail { self.new.fail ≡ self.old.fail }
+        ensures recorded { Records kind area place bytes.now self.old self.new result }
         ensures cause { HasCause self.old.faults self.new.faults result }
         ensures area { OnErr result (self.new.last_fault ≡ area) }
         ensures last { OnOk result (self.new.last_fault ≡ self.old.last_fault) }
@@ -164,7 +159,8 @@ impl MemoryBank {
 impl Bank for MemoryBank {
     ghost use Rattle.bank.specs.Past.{view_of};
     ghost use Rattle.bank.specs.Sound.{sound_of};
-    ghost use Rattle.bank.specs.Memory.{began, past_of};
+    ghost use Rattle.bank.specs.View.{Unchanged, Touches, OnlyContent};
+    ghost use Rattle.bank.specs.Memory.{began, past_of, Records};
 
     ghost tells = { true };
 
@@ -176,7 +172,15 @@ impl Bank for MemoryBank {
 
     ghost sound = { λ m told. sound_of (began m) (past_of m) };
 
-    fn read(&mut self, area: u32, place: u64, into: &mut [u8]) -> Result<(), BankFailed> {
+    fn read(&mut self, area: u32, place: u64, into: &mut [u8]) -> Result<(), BankFailed>
+        requires { place + length into.old < 2 ^ 63 }
+        ensures bytes { OnOk result (Stands (content_of (began self.old) (past_of self.old) area) place into.new) }
+        ensures unchanged { Unchanged (view_of (began self.old) (past_of self.old)) (view_of (began self.new) (past_of self.new)) }
+        ensures recorded { Records BankCall.Read area place [] self.old self.new result }
+        ensures cause { HasCause self.old.faults self.new.faults result }
+        ensures area { OnErr result (self.new.last_fault ≡ area) }
+        ensures last { OnOk result (self.new.last_fault ≡ self.old.last_fault) }
+    {
         self.note(BankCall::Read, area, place, &[])?;
         fill(
             self.before.as_slice(),
@@ -188,15 +192,34 @@ impl Bank for MemoryBank {
         Ok(())
     }
 
-    fn write(&mut self, area: u32, place: u64, bytes: &[u8]) -> Result<(), BankFailed> {
+    fn write(&mut self, area: u32, place: u64, bytes: &[u8]) -> Result<(), BankFailed>
+        requires { place + length bytes.now < 2 ^ 63 }
+        ensures written { OnOk result (Stands (content_of (began self.new) (past_of self.new) area) place bytes.now) }
+        ensures torn { Touches area place (length bytes.now) (view_of (began self.old) (past_of self.old)) (view_of (began self.new) (past_of self.new)) }
+        ensures later { OnOk result (length (past_of self.old) < length (past_of self.new)) }
+        ensures recorded { Records BankCall.Write area place bytes.now self.old self.new result }
+        ensures cause { HasCause self.old.faults self.new.faults result }
+        ensures area { OnErr result (self.new.last_fault ≡ area) }
+        ensures last { OnOk result (self.new.last_fault ≡ self.old.last_fault) }
+    {
         self.note(BankCall::Write, area, place, bytes)
     }
 
-    fn sync(&mut self, area: u32) -> Result<(), BankFailed> {
+    fn sync(&mut self, area: u32) -> Result<(), BankFailed>
+        ensures durable { OnOk result (OnlyContent area (view_of (began self.new) (past_of self.new))) }
+        ensures unchanged { Unchanged (view_of (began self.old) (past_of self.old)) (view_of (began self.new) (past_of self.new)) }
+        ensures later { OnOk result (length (past_of self.old) < length (past_of self.new)) }
+        ensures recorded { Records BankCall.Sync area 0 [] self.old self.new result }
+        ensures cause { HasCause self.old.faults self.new.faults result }
+        ensures area { OnErr result (self.new.last_fault ≡ area) }
+        ensures last { OnOk result (self.new.last_fault ≡ self.old.last_fault) }
+    {
         self.note(BankCall::Sync, area, 0, &[])
     }
 
-    fn moment(&self) -> u64 {
+    fn moment(&self) -> u64
+        ensures { result ≡ length (past_of self.now) }
+    {
         self.calls.len() as u64
     }
 }

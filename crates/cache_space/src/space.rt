@@ -90,7 +90,8 @@ impl CacheSpace {
         flags::are_free_runs(self.taken.as_slice(), runs)
     }
 
-    /// Takes the blocks of the runs, which have to be there. One that is taken stays so.
+    /// Takes the blocks of the runs, which have to be there (`are_there` tells it). One that is
+    /// taken stays so.
     pub fn hold(&mut self, runs: &[Run])
         requires { AreThere (length self.old) runs.now }
         ensures { (total : ℕ) (held : Seq Run) → self.old ≡ taken_by total held
@@ -101,7 +102,7 @@ impl CacheSpace {
         self.free -= changed;
     }
 
-    /// Frees the blocks of the runs, which have to be there.
+    /// Frees the blocks of the runs, which have to be there. Runs that are kept have none of them.
     pub fn give(&mut self, runs: &[Run])
         requires { AreThere (length self.old) runs.now }
         ensures { (total : ℕ) (kept : Seq Run) → self.old ≡ taken_by total (kept ++ runs.now)
