@@ -57,8 +57,8 @@ AreDisjoint-replaced xs old zs new h new_disjoint apart =
     let new_outer = AreApart-from_append_right new xs (old ++ zs) apart in
     let new_inner = AreApart-from_append_right new old zs new_outer.1 in
     AreDisjoint-append xs (new ++ zs) outer.0
-        (AreDisjoint-append new zs new_disjoint inner.1.0 new_inner.1)
-        (AreApart-append_right xs new zs (AreApart-sym new xs new_outer.0) (AreApart-from_append_right xs old zs outer.1.1).1)
+    (AreDisjoint-append new zs new_disjoint inner.1.0 new_inner.1)
+    (AreApart-append_right xs new zs (AreApart-sym new xs new_outer.0) (AreApart-from_append_right xs old zs outer.1.1).1)
 
 pub AreApart-replaced : (xs old zs new : List Run) → AreDisjoint (xs ++ (old ++ zs)) → AreApart new (xs ++ (old ++ zs)) → AreApart (xs ++ (new ++ zs)) old
 AreApart-replaced xs old zs new h apart =
@@ -66,7 +66,7 @@ AreApart-replaced xs old zs new h apart =
     let inner = AreDisjoint-from_append old zs outer.1.0 in
     let new_inner = AreApart-from_append_right new old zs (AreApart-from_append_right new xs (old ++ zs) apart).1 in
     AreApart-append xs (new ++ zs) old (AreApart-from_append_right xs old zs outer.1.1).0
-        (AreApart-append new zs old new_inner.0 (AreApart-sym old zs inner.1.1))
+    (AreApart-append new zs old new_inner.0 (AreApart-sym old zs inner.1.1))
 
 pub AreThere-replaced : (total : ℕ) (xs old zs new : List Run) → AreThere total (xs ++ (old ++ zs)) → AreThere total new → AreThere total (xs ++ (new ++ zs))
 AreThere-replaced total xs old zs new h there =

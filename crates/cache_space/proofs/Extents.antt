@@ -19,14 +19,15 @@ in_one run block low high = or_left (is_in_run block run) false (is_in_run_from 
 pub apart_ranges : (r s : Run) → RunsApart r s → 0 < r.count → 0 < s.count → (r.first + r.count ≤ s.first) ⊎ (s.first + s.count ≤ r.first)
 apart_ranges r s apart has_r has_s = ⊎_elim
     (λ (lt : s.first < r.first + r.count). ⊎_elim
-        (λ (gt : r.first < s.first + s.count). absurd (meet (cases_lt r.first s.first) lt gt))
-        (λ (le : s.first + s.count ≤ r.first). inr le)
-        (cases_lt r.first (s.first + s.count)))
+    (λ (gt : r.first < s.first + s.count). absurd (meet (cases_lt r.first s.first) lt gt))
+    (λ (le : s.first + s.count ≤ r.first). inr le)
+    (cases_lt r.first (s.first + s.count)))
     (λ (le : r.first + r.count ≤ s.first). inl le)
     (cases_lt s.first (r.first + r.count))
   where
     both : (block : ℕ) → is_in_runs (r ∷ []) block ≡ true → is_in_runs (s ∷ []) block ≡ true → ⊥
     both block in_r in_s = both_ways (is_in_runs (s ∷ []) block) (apart block in_r) in_s
+
     meet : (r.first < s.first) ⊎ (s.first ≤ r.first) → s.first < r.first + r.count → r.first < s.first + s.count → ⊥
     meet (inl below) lt gt = both s.first (in_one r s.first (omega (arith, below)) lt) (in_one s s.first (omega arith) (omega (arith, has_s)))
     meet (inr above) lt gt = both r.first (in_one r r.first (omega arith) (omega (arith, has_r))) (in_one s r.first above gt)
@@ -47,7 +48,7 @@ in_list runs i block d lt h = list_any_at (is_in_run block) runs i d lt (alone (
 pub apart_members : (xs ys : List Run) → AreApart xs ys → (i j : ℕ) (d e : Run) → i < length xs → j < length ys → RunsApart (get_or xs i d) (get_or ys j e)
 apart_members xs ys apart i j d e lt_i lt_j block h = false_from_ne_true (is_in_runs (get_or ys j e ∷ []) block)
     (λ (also : is_in_runs (get_or ys j e ∷ []) block ≡ true).
-        both_ways (is_in_runs ys block) (apart block (in_list xs i block d lt_i h)) (in_list ys j block e lt_j also))
+    both_ways (is_in_runs ys block) (apart block (in_list xs i block d lt_i h)) (in_list ys j block e lt_j also))
 
 -- and of one list of which no two have a block in common
 pub disjoint_members : (runs : List Run) → AreDisjoint runs → (i j : ℕ) (d : Run) → i < j → j < length runs → RunsApart (get_or runs i d) (get_or runs j d)

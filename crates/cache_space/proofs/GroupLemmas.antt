@@ -33,10 +33,10 @@ pub runs_joined : (taken : List Bool) (but : List Run) (from to n wanted left : 
     → as_runs ((blocks ++ take wanted (open_blocks taken but 0 from)) ++ take left (open_blocks taken but from n)) ≡ as_runs (blocks ++ take wanted (open_blocks taken but 0 to))
 runs_joined taken but from to n wanted left blocks e is =
     ap as_runs (append_assoc blocks (take wanted (open_blocks taken but 0 from)) (take left (open_blocks taken but from n))
-      ∙ ap (λ xs. blocks ++ xs) (
-          ap (λ k. take wanted (open_blocks taken but 0 from) ++ take k (open_blocks taken but from n)) is
-          ∙ sym (take-append wanted (open_blocks taken but 0 from) (open_blocks taken but from n))
-          ∙ ap (take wanted) (sym (two_parts taken but from to n e))))
+    ∙ ap (λ xs. blocks ++ xs) (
+    ap (λ k. take wanted (open_blocks taken but 0 from) ++ take k (open_blocks taken but from n)) is
+    ∙ sym (take-append wanted (open_blocks taken but 0 from) (open_blocks taken but from n))
+    ∙ ap (take wanted) (sym (two_parts taken but from to n e))))
 
 -- a full group has no open block
 pub open_blocks-full : (taken full : List Bool) (but : List Run) (group from to : ℕ) → FullAreTaken full taken → get_or full group false ≡ true
@@ -64,7 +64,7 @@ FullAreTaken-frees old_full full old new is_chosen marks cleared frees block lt 
     let before : block < length old = omega (arith, lt, frees.len) in
     let was = marks block before (cleared.others (block / 4096) marked) in
     let untouched : is_chosen block ≡ false = false_from_ne_true (is_chosen block) (λ (chosen : is_chosen block ≡ true).
-        both_ways (get_or full (block / 4096) false) (cleared.cleared block chosen) marked) in
+    both_ways (get_or full (block / 4096) false) (cleared.cleared block chosen) marked) in
     frees.each block before ∙ rw (was, untouched)
 
 -- marks run by run
@@ -78,7 +78,7 @@ AreCleared-more old now new runs i run lt e so_far here = record {
   others = λ group marked. so_far.others group (here.others group marked);
   cleared = λ block chosen. ⊎_elim
       (λ (before : is_in_runs (take i runs) block ≡ true). false_from_ne_true (get_or new (block / 4096) false) (λ (marked : get_or new (block / 4096) false ≡ true).
-          both_ways (get_or now (block / 4096) false) (so_far.cleared block before) (here.others (block / 4096) marked)))
+      both_ways (get_or now (block / 4096) false) (so_far.cleared block before) (here.others (block / 4096) marked)))
       (λ (at : is_in_run block (get_or runs i run) ≡ true). here.cleared block (ap (is_in_run block) e ∙ at))
       (or_cases (is_in_runs (take i runs) block) (is_in_run block (get_or runs i run)) (sym (list_any_more (is_in_run block) runs i run lt) ∙ chosen));
 }

@@ -46,6 +46,7 @@ blocks_in-put_before x (run ∷ runs) = cases (eqb run.first (x + 1))
   where
     count : Run → ℕ
     count = λ r. r.count
+
     cases : (t : Bool) → blocks_in (cond t ((record { first = x; count = run.count + 1 }) ∷ runs) ((record { first = x; count = 1 }) ∷ (run ∷ runs))) ≡ 1 + blocks_in (run ∷ runs)
     cases true = omega (arith, sum_by-cons (λ (r : Run). r.count) (record { first = x; count = run.count + 1 }) runs, sum_by-cons (λ (r : Run). r.count) run runs)
     cases false = sum_by-cons (λ (r : Run). r.count) (record { first = x; count = 1 }) (run ∷ runs)
@@ -96,7 +97,7 @@ AreMaximalFrom-as_runs low (x ∷ xs) h = AreMaximalFrom-put_before low x (as_ru
 pub lowest_runs-maximal : (total : ℕ) (held : List Run) (wanted : ℕ) → AreMaximal (lowest_runs total held wanted)
 lowest_runs-maximal total held wanted =
     AreMaximalFrom-as_runs 0 (take wanted (free_blocks total held))
-        (AscendFrom-take wanted 0 (free_blocks total held) (AscendFrom-filter (λ block. not (is_in_runs held block)) 0 total))
+    (AscendFrom-take wanted 0 (free_blocks total held) (AscendFrom-filter (λ block. not (is_in_runs held block)) 0 total))
 
 -- they are as many as are wanted
 pub blocks_in-lowest_runs : (total : ℕ) (held : List Run) (wanted : ℕ) → wanted ≤ length (free_blocks total held) → blocks_in (lowest_runs total held wanted) ≡ wanted
@@ -132,7 +133,7 @@ lowest_runs-free total held wanted = (λ block h. (each block h).0, λ block h. 
     each : (block : ℕ) → is_in_runs (lowest_runs total held wanted) block ≡ true → (block < total) × (not (is_in_runs held block) ≡ true)
     each block h =
         let r = kept_in_range (λ b. not (is_in_runs held b)) 0 total block
-            (among_taken wanted block (free_blocks total held) (sym (is_in_runs-as_runs (take wanted (free_blocks total held)) block) ∙ h)) in
+        (among_taken wanted block (free_blocks total held) (sym (is_in_runs-as_runs (take wanted (free_blocks total held)) block) ∙ h)) in
         (omega (arith, r.0), r.1)
 
 pub lowest_runs-there : (total : ℕ) (held : List Run) (wanted : ℕ) → AreThere total (lowest_runs total held wanted)
@@ -174,14 +175,14 @@ IsRunWithin total run = (0 < run.count) × (run.first + run.count ≤ total)
 run_within : (total : ℕ) (run : Run) (runs : List Run) → 0 < run.count → AreThere total (run ∷ runs) → IsRunWithin total run
 run_within total run runs has there =
     let last = there (run.first + (run.count - 1)) (or_left (is_in_run (run.first + (run.count - 1)) run) (is_in_runs runs (run.first + (run.count - 1)))
-        (is_in_run_from run (run.first + (run.count - 1)) (omega arith) (omega (arith, has)))) in
+    (is_in_run_from run (run.first + (run.count - 1)) (omega arith) (omega (arith, has)))) in
     (has, omega (arith, has, last))
 
 pub AreMaximalFrom-within : (total low : ℕ) (runs : List Run) → AreMaximalFrom low runs → AreThere total runs → All (IsRunWithin total) runs
 AreMaximalFrom-within total low [] h there = All-nil (IsRunWithin total)
 AreMaximalFrom-within total low (run ∷ runs) h there =
     All-cons (IsRunWithin total) run runs (run_within total run runs h.1 there)
-        (AreMaximalFrom-within total (run.first + run.count + 1) runs h.2 (λ block later. there block (or_right (is_in_run block run) (is_in_runs runs block) later)))
+    (AreMaximalFrom-within total (run.first + run.count + 1) runs h.2 (λ block later. there block (or_right (is_in_run block run) (is_in_runs runs block) later)))
 
 pub AreMaximal-within : (total : ℕ) (runs : List Run) → AreMaximal runs → AreThere total runs → All (IsRunWithin total) runs
 AreMaximal-within total runs h there = AreMaximalFrom-within total 0 runs h there

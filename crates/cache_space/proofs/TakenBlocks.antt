@@ -1,7 +1,8 @@
 -- Flags after runs are taken and freed.
-use Rattle.std.proofs.Common.{◌≡◌, ◌≢◌, ℕ, ◌+◌, ◌-◌, ◌<◌, ◌≤◌, Bool, true, false, eqb, not, ◌||◌, ◌&&◌, List, [], ◌++◌, length, take, get_or, set, count_by, refl, sym, ◌∙◌, ap, arith, ⊎_elim, cond, add-zero, mul-one, replicate}
+use Rattle.std.proofs.Common.{◌≡◌, ◌≢◌, ℕ, ◌+◌, ◌-◌, ◌<◌, ◌≤◌, Bool, true, false, eqb, not, ◌||◌, ◌&&◌, List, [], ◌++◌, length, take, get_or, set, count_by, refl, sym, ◌∙◌, ap, arith, ⊎_elim, cond, add-zero, mul-one, replicate, min}
 use Rattle.std.specs.List.{range_with_len}
 use Rattle.std.proofs.lemmas.Bool.{cases_eq, cases_lt, eq-eqb, ne_eqb, both_ways}
+use Rattle.std.proofs.lemmas.Bool.Decides.{same_from_decides}
 use Rattle.std.proofs.lemmas.List.{length-set, length-replicate, get_or-replicate, get_or-set_same, get_or-set_other, get_or_read, get_or_past}
 use Rattle.std.proofs.lemmas.List.Sums.{sum_by-set, length-filter}
 use Rattle.std.proofs.lemmas.List.Folds.{list_any_more, fold-map, sum_by-replicate}
@@ -10,7 +11,7 @@ use Rattle.records.specs.declared.file.Run.{Run}
 use Rattle.cache_space.specs.Blocks.{is_in_run, is_in_runs, free_blocks}
 use Rattle.cache_space.specs.Flags.{Takes, Frees}
 use Rattle.cache_space.specs.Space.{taken_by, AreApart, AreFree}
-use Rattle.cache_space.proofs.RunLemmas.{is_in_run_more, is_in_run_none, is_in_runs-append, is_in_run_tells}
+use Rattle.cache_space.proofs.RunLemmas.{is_in_run_more, is_in_run_none, is_in_runs-append, is_in_run_tells, is_in_run_from}
 
 -- the first blocks of a run
 abbrev pub first_of : Run → ℕ → Run
@@ -83,23 +84,50 @@ Frees-set flags place = record { len = length-set flags place false; each = each
         (cases_eq block place)
 
 -- a run, block by block
+clipped : (run : Run) (behind total block : ℕ) → run.first ≤ behind → min (run.first + run.count) total ≤ behind
+    → (run.first ≤ min (run.first + run.count) total → behind ≤ min (run.first + run.count) total) → block < total
+    → is_in_run block (first_of run (behind - run.first)) ≡ is_in_run block run
+clipped run behind total block low past within lt = same_from_decides {P = (run.first ≤ block) × (block < run.first + run.count)}
+    (is_in_run block (first_of run (behind - run.first))) (is_in_run block run)
+    (
+      λ h. let t = is_in_run_tells (first_of run (behind - run.first)) block h in (t.0, omega (arith, t.0, t.1, low, within, lt)),
+      λ h. is_in_run_from (first_of run (behind - run.first)) block h.0 (omega (arith, h.0, h.1, low, past, lt)),
+    )
+    (is_in_run_tells run block, λ h. is_in_run_from run block h.0 h.1)
+
 pub Takes-run_none : (flags : List Bool) (run : Run) → Takes flags flags (λ block. is_in_run block (first_of run 0))
 Takes-run_none flags run = Takes-none flags (λ block. is_in_run block (first_of run 0)) (is_in_run_none run.first)
 
-pub Takes-run_more : (old now : List Bool) (run : Run) (k place : ℕ) → run.first + k ≡ place → Takes old now (λ block. is_in_run block (first_of run k))
-    → Takes old (set now place true) (λ block. is_in_run block (first_of run (k + 1)))
-Takes-run_more old now run k place e so_far =
-    Takes-then old now (set now place true) (λ block. is_in_run block (first_of run k)) (λ block. eqb block place) (λ block. is_in_run block (first_of run (k + 1)))
-    so_far (Takes-set now place) (λ block. is_in_run_more run.first k block ∙ ap (λ p. is_in_run block (first_of run k) || eqb block p) e)
+pub Takes-run_more : (old now : List Bool) (run : Run) (k more place : ℕ) → run.first + k ≡ place → more ≡ k + 1 → Takes old now (λ block. is_in_run block (first_of run k))
+    → Takes old (set now place true) (λ block. is_in_run block (first_of run more))
+Takes-run_more old now run k more place e one so_far =
+    Takes-then old now (set now place true) (λ block. is_in_run block (first_of run k)) (λ block. eqb block place) (λ block. is_in_run block (first_of run more))
+        so_far (Takes-set now place) (λ block. ap (λ n. is_in_run block (first_of run n)) one ∙ is_in_run_more run.first k block ∙ ap (λ p. is_in_run block (first_of run k) || eqb block p) e)
+
+pub Takes-run_all : (old now : List Bool) (run : Run) (behind : ℕ) → run.first ≤ behind → min (run.first + run.count) (length old) ≤ behind
+    → (run.first ≤ min (run.first + run.count) (length old) → behind ≤ min (run.first + run.count) (length old))
+    → Takes old now (λ block. is_in_run block (first_of run (behind - run.first))) → Takes old now (λ block. is_in_run block run)
+Takes-run_all old now run behind low past within so_far = record {
+  len = so_far.len;
+  each = λ block lt. so_far.each block lt ∙ ap (λ b. get_or old block true || b) (clipped run behind (length old) block low past within lt);
+}
 
 pub Frees-run_none : (flags : List Bool) (run : Run) → Frees flags flags (λ block. is_in_run block (first_of run 0))
 Frees-run_none flags run = Frees-none flags (λ block. is_in_run block (first_of run 0)) (is_in_run_none run.first)
 
-pub Frees-run_more : (old now : List Bool) (run : Run) (k place : ℕ) → run.first + k ≡ place → Frees old now (λ block. is_in_run block (first_of run k))
-    → Frees old (set now place false) (λ block. is_in_run block (first_of run (k + 1)))
-Frees-run_more old now run k place e so_far =
-    Frees-then old now (set now place false) (λ block. is_in_run block (first_of run k)) (λ block. eqb block place) (λ block. is_in_run block (first_of run (k + 1)))
-    so_far (Frees-set now place) (λ block. is_in_run_more run.first k block ∙ ap (λ p. is_in_run block (first_of run k) || eqb block p) e)
+pub Frees-run_more : (old now : List Bool) (run : Run) (k more place : ℕ) → run.first + k ≡ place → more ≡ k + 1 → Frees old now (λ block. is_in_run block (first_of run k))
+    → Frees old (set now place false) (λ block. is_in_run block (first_of run more))
+Frees-run_more old now run k more place e one so_far =
+    Frees-then old now (set now place false) (λ block. is_in_run block (first_of run k)) (λ block. eqb block place) (λ block. is_in_run block (first_of run more))
+        so_far (Frees-set now place) (λ block. ap (λ n. is_in_run block (first_of run n)) one ∙ is_in_run_more run.first k block ∙ ap (λ p. is_in_run block (first_of run k) || eqb block p) e)
+
+pub Frees-run_all : (old now : List Bool) (run : Run) (behind : ℕ) → run.first ≤ behind → min (run.first + run.count) (length old) ≤ behind
+    → (run.first ≤ min (run.first + run.count) (length old) → behind ≤ min (run.first + run.count) (length old))
+    → Frees old now (λ block. is_in_run block (first_of run (behind - run.first))) → Frees old now (λ block. is_in_run block run)
+Frees-run_all old now run behind low past within so_far = record {
+  len = so_far.len;
+  each = λ block lt. so_far.each block lt ∙ ap (λ b. get_or old block true && not b) (clipped run behind (length old) block low past within lt);
+}
 
 -- runs, one by one
 pub Takes-runs_more : (old now new : List Bool) (runs : List Run) (i : ℕ) (run : Run) → i < length runs → run ≡ get_or runs i run

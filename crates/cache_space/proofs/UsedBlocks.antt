@@ -17,7 +17,7 @@ filter-range_all p a zero all = refl
 filter-range_all p a (suc n) all =
     let here : p a ≡ true = all a (omega arith) (omega arith) in
     let rest : length (filter p (range_with_len (a + 1) n)) ≡ n =
-        filter-range_all p (a + 1) n (λ k low high. all k (omega (arith, low)) (omega (arith, high))) in
+    filter-range_all p (a + 1) n (λ k low high. all k (omega (arith, low)) (omega (arith, high))) in
     rw here (ap suc rest)
 
 not_within : (run : Run) (block : ℕ) → ((run.first ≤ block) × (block < run.first + run.count) → ⊥) → is_in_run block run ≡ false
@@ -32,23 +32,24 @@ one_run total run there = ⊎_elim
   where
     within : ℕ → Bool
     within block = is_in_run block run
+
     split : (run.count ≡ 0 → ⊥) → length (filter (λ block. is_in_run block run) (range_with_len 0 total)) ≡ run.count
     split some =
         let last = there (run.first + (run.count - 1)) (or_left (is_in_run (run.first + (run.count - 1)) run) false
-            (is_in_run_from run (run.first + (run.count - 1)) (omega arith) (omega (arith, some)))) in
+        (is_in_run_from run (run.first + (run.count - 1)) (omega arith) (omega (arith, some)))) in
         let parts : total ≡ run.first + (run.count + (total - (run.first + run.count))) = omega (arith, some, last) in
         let rest : ℕ = total - (run.first + run.count) in
         let before : filter (λ block. is_in_run block run) (range_with_len 0 run.first) ≡ [] =
-            filter-range_none (λ block. is_in_run block run) 0 run.first (λ k low high. not_within run k (λ h. omega (arith, h.0, high))) in
+        filter-range_none (λ block. is_in_run block run) 0 run.first (λ k low high. not_within run k (λ h. omega (arith, h.0, high))) in
         let middle : length (filter (λ block. is_in_run block run) (range_with_len (0 + run.first) run.count)) ≡ run.count =
-            filter-range_all (λ block. is_in_run block run) (0 + run.first) run.count (λ k low high. is_in_run_from run k (omega (arith, low)) (omega (arith, high))) in
+        filter-range_all (λ block. is_in_run block run) (0 + run.first) run.count (λ k low high. is_in_run_from run k (omega (arith, low)) (omega (arith, high))) in
         let behind : filter (λ block. is_in_run block run) (range_with_len (0 + run.first + run.count) rest) ≡ [] =
-            filter-range_none (λ block. is_in_run block run) (0 + run.first + run.count) rest (λ k low high. not_within run k (λ h. omega (arith, h.1, low))) in
+        filter-range_none (λ block. is_in_run block run) (0 + run.first + run.count) rest (λ k low high. not_within run k (λ h. omega (arith, h.1, low))) in
         ap (λ n. length (filter (λ block. is_in_run block run) (range_with_len 0 n))) parts
         ∙ ap (λ xs. length (filter (λ block. is_in_run block run) xs)) (range_with_len-add 0 run.first (run.count + rest) ∙ ap (λ xs. range_with_len 0 run.first ++ xs) (range_with_len-add (0 + run.first) run.count rest))
         ∙ ap length (filter-append (λ block. is_in_run block run) (range_with_len 0 run.first) (range_with_len (0 + run.first) run.count ++ range_with_len (0 + run.first + run.count) rest)
-            ∙ ap (λ xs. xs ++ filter (λ block. is_in_run block run) (range_with_len (0 + run.first) run.count ++ range_with_len (0 + run.first + run.count) rest)) before
-            ∙ filter-append (λ block. is_in_run block run) (range_with_len (0 + run.first) run.count) (range_with_len (0 + run.first + run.count) rest))
+        ∙ ap (λ xs. xs ++ filter (λ block. is_in_run block run) (range_with_len (0 + run.first) run.count ++ range_with_len (0 + run.first + run.count) rest)) before
+        ∙ filter-append (λ block. is_in_run block run) (range_with_len (0 + run.first) run.count) (range_with_len (0 + run.first + run.count) rest))
         ∙ length-append (filter (λ block. is_in_run block run) (range_with_len (0 + run.first) run.count)) (filter (λ block. is_in_run block run) (range_with_len (0 + run.first + run.count) rest))
         ∙ omega (arith, middle, ap length behind)
 

@@ -1,5 +1,5 @@
 -- Blocks by a flag for each, which tells whether it is taken.
-use Rattle.std.specs.Prelude.{◌≡◌, ℕ, ◌<◌, Bool, true, not, ◌||◌, ◌&&◌, List, length, filter, slice_index_or, ◌≤◌, ◌*◌, ◌/◌, ◌^◌, IsTrue, IsFalse, false, count_by}
+use Rattle.std.specs.Prelude.{◌≡◌, ℕ, ◌+◌, ◌<◌, Bool, true, not, ◌||◌, ◌&&◌, List, length, filter, slice_index_or, ◌/◌, ◌^◌, IsTrue, IsFalse, false, count_by}
 use Rattle.std.specs.List.{range_with_len}
 use Rattle.records.specs.declared.file.Run.{Run}
 use Rattle.cache_space.specs.Blocks.{is_in_runs}
@@ -36,5 +36,5 @@ pub record AreCleared (old new : List Bool) (is_chosen : ℕ → Bool) : Type 0 
 pub record AreInStep (taken full : List Bool) (free : ℕ) : Type 0 where
   pub small : length taken < 2 ^ 32
   pub count : free ≡ count_by not taken
-  pub covers : length taken ≤ length full * 4096
+  pub groups : length full ≡ (length taken + 4095) / 4096
   pub marks : FullAreTaken full taken

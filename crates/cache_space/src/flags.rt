@@ -1,23 +1,29 @@
 //! Blocks by a flag for each, which tells whether it is taken.
 
-ghost use Rattle.std.specs.Prelude.{◌≡◌, ℕ, ◌+◌, ◌-◌, ◌<◌, ◌≤◌, ◌^◌, ◌↔◌, true, not, List as Seq, [], ◌++◌, length, take, count_by, slice_index_or, IfOk, OnOk, IsTrue, IsFalse};
+ghost use Rattle.std.specs.Prelude.{◌≡◌, ℕ, ◌+◌, ◌-◌, ◌<◌, ◌≤◌, ◌^◌, ◌↔◌, true, not, List as Seq, [], ◌++◌, length, take, count_by, slice_index_or, IfOk, OnOk, IsTrue, IsFalse, min};
 ghost use Rattle.cache_space.specs.Blocks.{is_in_run, is_in_runs, as_runs};
-ghost use Rattle.cache_space.specs.Space.{AreThere};
 ghost use Rattle.cache_space.specs.Flags.{is_open, open_blocks, Takes, Frees};
 
-use crate::runs::{add_block, has_block};
+use crate::runs::{add_block, end_of, has_block};
 use records::Run;
 use std::alloc::AllocError;
 
-/// Takes the blocks of a run; answers how many of them were free.
+/// The block behind those of a run that are there.
+fn end_within(run: &Run, total: usize) -> usize
+    ensures { result ≡ min (run.now.first + run.now.count) total }
+{
+    end_of(run).min(total as u64) as usize
+}
+
+/// Takes the blocks of a run, as far as they are there; answers how many of them were free.
 fn take_run(taken: &mut Vec<bool>, run: &Run) -> u32
-    requires { (block : ℕ) → IsTrue (is_in_run block run.now) → block < length taken.old.items }
+    requires { length taken.old.items < 2 ^ 32 }
     ensures flags { Takes taken.old.items taken.new.items (λ block. is_in_run block run.now) }
     ensures count { count_by not taken.new.items + result ≡ count_by not taken.old.items }
 {
     let mut changed = 0;
-    for offset in 0..run.count {
-        let block = run.first as usize + offset as usize;
+    let end = end_within(run, taken.len());
+    for block in run.first as usize..end {
         if !taken[block] {
             changed += 1;
         }
@@ -26,15 +32,15 @@ fn take_run(taken: &mut Vec<bool>, run: &Run) -> u32
     changed
 }
 
-/// Frees the blocks of a run; answers how many of them were taken.
+/// Frees the blocks of a run, as far as they are there; answers how many of them were taken.
 fn free_run(taken: &mut Vec<bool>, run: &Run) -> u32
-    requires { (block : ℕ) → IsTrue (is_in_run block run.now) → block < length taken.old.items }
+    requires { length taken.old.items < 2 ^ 32 }
     ensures flags { Frees taken.old.items taken.new.items (λ block. is_in_run block run.now) }
     ensures count { count_by not taken.new.items ≡ count_by not taken.old.items + result }
 {
     let mut changed = 0;
-    for offset in 0..run.count {
-        let block = run.first as usize + offset as usize;
+    let end = end_within(run, taken.len());
+    for block in run.first as usize..end {
         if taken[block] {
             changed += 1;
         }
@@ -43,10 +49,9 @@ fn free_run(taken: &mut Vec<bool>, run: &Run) -> u32
     changed
 }
 
-/// Takes the blocks of runs; answers how many of them were free.
+/// Takes the blocks of runs, as far as they are there; answers how many of them were free.
 pub fn take_runs(taken: &mut Vec<bool>, runs: &[Run]) -> u32
-    requires there { AreThere (length taken.old.items) runs.now }
-    requires small { length taken.old.items < 2 ^ 32 }
+    requires { length taken.old.items < 2 ^ 32 }
     ensures flags { Takes taken.old.items taken.new.items (is_in_runs runs.now) }
     ensures count { count_by not taken.new.items + result ≡ count_by not taken.old.items }
 {
@@ -57,10 +62,9 @@ pub fn take_runs(taken: &mut Vec<bool>, runs: &[Run]) -> u32
     changed
 }
 
-/// Frees the blocks of runs; answers how many of them were taken.
+/// Frees the blocks of runs, as far as they are there; answers how many of them were taken.
 pub fn free_runs(taken: &mut Vec<bool>, runs: &[Run]) -> u32
-    requires there { AreThere (length taken.old.items) runs.now }
-    requires small { length taken.old.items < 2 ^ 32 }
+    requires { length taken.old.items < 2 ^ 32 }
     ensures flags { Frees taken.old.items taken.new.items (is_in_runs runs.now) }
     ensures count { count_by not taken.new.items ≡ count_by not taken.old.items + result }
 {

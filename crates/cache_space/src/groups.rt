@@ -1,9 +1,8 @@
 //! Groups of 4,096 blocks, each marked where all its blocks are known to be taken, so that a search
 //! for free blocks passes over it.
 
-ghost use Rattle.std.specs.Prelude.{◌≡◌, ℕ, ◌+◌, ◌-◌, ◌*◌, ◌/◌, ◌<◌, ◌≤◌, ◌^◌, ◌↔◌, true, false, List as Seq, ◌++◌, length, take, slice_index_or, IfOk, OnOk, IsTrue, IsFalse};
+ghost use Rattle.std.specs.Prelude.{◌≡◌, ℕ, ◌+◌, ◌-◌, ◌*◌, ◌/◌, ◌<◌, ◌≤◌, ◌^◌, ◌↔◌, true, false, List as Seq, ◌++◌, length, take, slice_index_or, IfOk, OnOk, IsTrue, IsFalse, min};
 ghost use Rattle.cache_space.specs.Blocks.{is_in_run, is_in_runs, as_runs};
-ghost use Rattle.cache_space.specs.Space.{AreThere};
 ghost use Rattle.cache_space.specs.Flags.{open_blocks, FullAreTaken, AreCleared};
 
 use crate::flags::{add_lowest, lacking};
@@ -17,7 +16,7 @@ const GROUP: usize = 4096;
 
 /// How many groups so many blocks make, the last one maybe shorter.
 pub fn groups_of(blocks: u32) -> usize
-    ensures { blocks ≤ result * 4096 }
+    ensures { result ≡ (blocks + 4095) / 4096 }
 {
     (blocks as usize).div_ceil(GROUP)
 }
@@ -38,27 +37,32 @@ fn is_full(taken: &[bool], group: usize) -> bool
     true
 }
 
+/// The first group of a run's blocks, and the one behind the last, of so many groups.
+fn groups_of_run(run: &Run, groups: usize) -> (usize, usize)
+    ensures first { result.0 ≡ run.now.first / 4096 }
+    ensures end { result.1 ≡ min ((run.now.first + run.now.count + 4095) / 4096) groups }
+{
+    let end = (end_of(run) as usize).div_ceil(GROUP);
+    (run.first as usize / GROUP, end.min(groups))
+}
+
 /// Marks the groups of a run's blocks that are full.
 fn mark_full_of(full: &mut Vec<bool>, taken: &[bool], run: &Run)
     requires marks { FullAreTaken full.old.items taken.now }
-    requires covers { length taken.now ≤ length full.old.items * 4096 }
-    requires there { (block : ℕ) → IsTrue (is_in_run block run.now) → block < length taken.now }
+    requires covers { length full.old.items ≤ length taken.now / 4096 + 1 }
     ensures marks { FullAreTaken full.new.items taken.now }
     ensures len { length full.new.items ≡ length full.old.items }
 {
-    if run.count > 0 {
-        let last = (end_of(run) - 1) as usize / GROUP;
-        for group in run.first as usize / GROUP..last + 1 {
-            full[group] = is_full(taken, group);
-        }
+    let (first, end) = groups_of_run(run, full.len());
+    for group in first..end {
+        full[group] = is_full(taken, group);
     }
 }
 
 /// Marks the groups of the runs' blocks that are full.
 pub fn mark_full(full: &mut Vec<bool>, taken: &[bool], runs: &[Run])
     requires marks { FullAreTaken full.old.items taken.now }
-    requires covers { length taken.now ≤ length full.old.items * 4096 }
-    requires there { AreThere (length taken.now) runs.now }
+    requires covers { length full.old.items ≤ length taken.now / 4096 + 1 }
     ensures marks { FullAreTaken full.new.items taken.now }
     ensures len { length full.new.items ≡ length full.old.items }
 {
@@ -69,21 +73,17 @@ pub fn mark_full(full: &mut Vec<bool>, taken: &[bool], runs: &[Run])
 
 /// Takes the marks from the groups of a run's blocks.
 fn clear_marks_of(full: &mut Vec<bool>, run: &Run)
-    requires { (block : ℕ) → IsTrue (is_in_run block run.now) → block < length full.old.items * 4096 }
-    ensures cleared { AreCleared full.old.items full.new.items (λ block. is_in_run block run.now) }
+    ensures { AreCleared full.old.items full.new.items (λ block. is_in_run block run.now) }
 {
-    if run.count > 0 {
-        let last = (end_of(run) - 1) as usize / GROUP;
-        for group in run.first as usize / GROUP..last + 1 {
-            full[group] = false;
-        }
+    let (first, end) = groups_of_run(run, full.len());
+    for group in first..end {
+        full[group] = false;
     }
 }
 
 /// Takes the marks from the groups of the runs' blocks.
 pub fn clear_marks(full: &mut Vec<bool>, runs: &[Run])
-    requires { AreThere (length full.old.items * 4096) runs.now }
-    ensures cleared { AreCleared full.old.items full.new.items (is_in_runs runs.now) }
+    ensures { AreCleared full.old.items full.new.items (is_in_runs runs.now) }
 {
     for run in runs {
         clear_marks_of(full, run);

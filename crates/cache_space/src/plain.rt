@@ -52,7 +52,12 @@ fn plain_runs(alloc: Global, blocks: &[u32]) -> Result<Vec<Run>, AllocError>
 
 /// The lowest of so many blocks that none of the runs has, as maximal runs; fewer than are wanted
 /// where there are fewer.
-pub fn plain_lowest(alloc: Global, total: u32, held: &[Run], wanted: u32) -> Result<List<Run>, AllocError>
+pub fn plain_lowest(
+    alloc: Global,
+    total: u32,
+    held: &[Run],
+    wanted: u32,
+) -> Result<List<Run>, AllocError>
     ensures { IfOk result (λ runs. runs ≡ lowest_runs total held.now wanted) }
 {
     let mut blocks = plain_free(alloc, total, held)?;

@@ -1,7 +1,7 @@
 //! Runs of blocks.
 
 ghost use Rattle.std.specs.Prelude.{◌≡◌, ℕ, ◌+◌, ◌-◌, ◌<◌, ◌^◌, List as Seq, [], ◌∷◌, ◌++◌, OnOk, OnErr, ◌↔◌, IsTrue};
-ghost use Rattle.cache_space.specs.Space.{AreMaximal, AreThere, blocks_in};
+ghost use Rattle.cache_space.specs.Space.{AreMaximal, blocks_in};
 ghost use Rattle.cache_space.specs.Blocks.{blocks_for, is_in_runs, as_runs};
 
 use records::Run;
@@ -75,16 +75,4 @@ pub fn have_blocks(runs: &[Run], blocks: u32) -> bool
         left -= run.count;
     }
     left == 0
-}
-
-/// Whether each block of the runs is one of so many blocks from 0 on.
-pub fn are_there(total: u32, runs: &[Run]) -> bool
-    ensures { IsTrue result ↔ AreThere total runs.now }
-{
-    for run in runs {
-        if run.count > 0 && end_of(run) > total as u64 {
-            return false;
-        }
-    }
-    true
 }

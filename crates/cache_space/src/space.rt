@@ -2,11 +2,10 @@
 
 ghost use Rattle.std.specs.Prelude.{◌≡◌, ℕ, ◌+◌, ◌<◌, ◌≤◌, ◌↔◌, length, List as Seq, [], ◌++◌, IfOk, OnOk, IsTrue};
 ghost use Rattle.cache_space.specs.Blocks.{free_blocks, lowest_runs};
-ghost use Rattle.cache_space.specs.Space.{taken_by, AreThere, AreApart, AreFree};
+ghost use Rattle.cache_space.specs.Space.{taken_by, AreApart, AreFree};
 
-use crate::flags;
-use crate::groups;
 use crate::refusal::SpaceRefusal;
+use crate::{flags, groups};
 use records::Run;
 use site_text::List;
 use std::alloc::{AllocError, Global};
@@ -90,10 +89,8 @@ impl CacheSpace {
         flags::are_free_runs(self.taken.as_slice(), runs)
     }
 
-    /// Takes the blocks of the runs, which have to be there (`are_there` tells it). One that is
-    /// taken stays so.
+    /// Takes the blocks of the runs, as far as they are there. One that is taken stays so.
     pub fn hold(&mut self, runs: &[Run])
-        requires { AreThere (length self.old) runs.now }
         ensures { (total : ℕ) (held : Seq Run) → self.old ≡ taken_by total held
             → self.new ≡ taken_by total (held ++ runs.now) }
     {
@@ -102,9 +99,8 @@ impl CacheSpace {
         self.free -= changed;
     }
 
-    /// Frees the blocks of the runs, which have to be there. Runs that are kept have none of them.
+    /// Frees the blocks of the runs, as far as they are there. Runs that are kept have none of them.
     pub fn give(&mut self, runs: &[Run])
-        requires { AreThere (length self.old) runs.now }
         ensures { (total : ℕ) (kept : Seq Run) → self.old ≡ taken_by total (kept ++ runs.now)
             → AreApart kept runs.now → self.new ≡ taken_by total kept }
     {
