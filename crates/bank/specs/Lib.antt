@@ -5,4 +5,3 @@ pub mod Memory
 pub mod Past
 pub mod Sound
 pub mod View
-pub mod Inside

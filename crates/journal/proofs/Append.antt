@@ -2,11 +2,11 @@
 use Rattle.std.proofs.Common.{◌≡◌, ◌⊎◌, inl, inr, ◌<◌, ◌≤◌, ℕ, ◌+◌, List, [], ◌∷◌, ◌++◌, length, sym, ◌∙◌, subst, ap, arith, length-append}
 use Rattle.std.proofs.lemmas.Bool.{cases_eq}
 use Rattle.std.specs.Int.{w32, to_le_bytes}
-use Rattle.bank.specs.Content.{Content, Stands, Same, SameOutside}
+use Rattle.bank.specs.Content.{Content, Stands, SameOutside}
 use Rattle.bank.specs.View.{View, IsSound, Wrote, IsTornImage, LeavesOnly, OnlyContent}
 use Rattle.bank.proofs.Spans.{Stands-front, Stands-back, Stands-same, Stands-append}
 use Rattle.bank.proofs.Moments.{started, weakened, joined}
-use Rattle.journal.specs.Records.{IsPayload, frame, IsRecord, AreRecords, HoldsRecords, end_of, AllHold, IsBeforeOrAfter}
+use Rattle.journal.specs.Records.{IsPayload, frame, HoldsRecords, end_of, AllHold, IsBeforeOrAfter}
 use Rattle.journal.proofs.RecordLaws.{length-frame, end-push, before-same, records-push, holds-same}
 
 -- in front of a closed gate
@@ -70,9 +70,11 @@ module _ (p : ℕ) (xs : List (List ℕ)) (x : List ℕ) (size : ℕ) (e : p ≡
 
     -- and once it is on the medium
     pub acknowledged : (u : View) → Wrote 0 p 1 w u → OnlyContent 0 u → u.content 0 p ≡ 1 → AllHold u (xs ++ x ∷ []) size
-    acknowledged u g only_then one = record { each = λ c left.
-        let now = only_then c left in
-        opened c (λ k out. sym (now k) ∙ g.content k out) (sym (now p) ∙ one) }
+    acknowledged u g only_then one = record {
+      each = λ c left.
+          let now = only_then c left in
+          opened c (λ k out. sym (now k) ∙ g.content k out) (sym (now p) ∙ one);
+    }
 
 -- what stands after three writes, one behind the other
 three_spans : (p : ℕ) (l x : List ℕ) (c1 c2 c3 : Content) → length l ≡ 4 → Stands c1 (p + 1) l → SameOutside (p + 5) (length x) c1 c2 → Stands c2 (p + 5) x

@@ -1,12 +1,12 @@
 -- What stays of the records while other things happen in the store.
-use Rattle.std.proofs.Common.{◌≡◌, ◌≢◌, ◌⊎◌, inl, inr, ◌<◌, ◌≤◌, ℕ, ◌+◌, List, [], ◌∷◌, ◌++◌, length, refl, sym, ◌∙◌, ap, subst, arith, length-append}
+use Rattle.std.proofs.Common.{◌≡◌, ◌≢◌, ◌⊎◌, inl, inr, ◌<◌, ◌≤◌, ℕ, ◌+◌, List, [], ◌∷◌, ◌++◌, length, refl, sym, ◌∙◌, ap, arith, length-append}
 use Rattle.std.proofs.lemmas.Bool.{cases_lt}
 use Rattle.std.specs.List.{All}
 use Rattle.std.proofs.lemmas.List.Elements.{All-nil, All-cons}
-use Rattle.bank.specs.Content.{Content, Image, Same}
+use Rattle.bank.specs.Content.{Content, Image}
 use Rattle.bank.specs.View.{View, IsImage, IsSound, IsTornImage, LeavesOnly, Wrote, OnlyRead}
-use Rattle.journal.specs.Records.{IsPayload, IsRecord, AreRecords, end_of, IsEnd, HoldsRecords, AllHold, IsBeforeOrAfter}
-use Rattle.journal.proofs.RecordLaws.{end-above, end-push, end-within, before-same, holds-same, one_list}
+use Rattle.journal.specs.Records.{IsPayload, AreRecords, end_of, IsEnd, HoldsRecords, AllHold}
+use Rattle.journal.proofs.RecordLaws.{end-within, before-same, one_list}
 
 -- what each image since a moment has, an image now has
 pub now_has : (old new : View) (P : Image → Type 0) → IsSound new → LeavesOnly old new P → (c : Image) → IsImage new c → P c
@@ -40,6 +40,7 @@ module _ (xs : List (List ℕ)) (size : ℕ) where
     where
       within : end_of 0 xs ≤ size
       within = end-within c 0 xs size (omega arith) h.records
+
       by_end : IsEnd c (end_of 0 xs) size → (end_of 0 xs < size) ⊎ (size ≤ end_of 0 xs) → IsEnd d (end_of 0 xs) size
       by_end shut (inr past) = inr past
       by_end (inr past) (inl lt) = inr past

@@ -1,10 +1,10 @@
 -- Lists of records in an area.
-use Rattle.std.proofs.Common.{◌≡◌, ◌≢◌, ◌⊎◌, inl, inr, ◌<◌, ◌≤◌, ℕ, ◌+◌, List, [], ◌∷◌, ◌++◌, length, refl, sym, ◌∙◌, ap, subst, ◌^◌, arith, length-append, Result, Ok, Err, OnOk}
+use Rattle.std.proofs.Common.{◌≡◌, inl, inr, ◌<◌, ◌≤◌, ℕ, ◌+◌, List, [], ◌∷◌, ◌++◌, length, refl, sym, ◌∙◌, ap, subst, ◌^◌, arith, length-append, Result, Ok, Err, OnOk}
 use Rattle.std.proofs.lemmas.Nat.{from_le_bytes-to_le_bytes_4}
 use Rattle.std.specs.Int.{w32, to_le_bytes, from_le_bytes}
 use Rattle.bank.specs.Content.{Content, Stands, Same}
 use Rattle.bank.specs.View.{View, OnlyContent}
-use Rattle.bank.proofs.Spans.{Stands-front, Stands-back, Stands-same, Stands-append, Stands-only}
+use Rattle.bank.proofs.Spans.{Stands-front, Stands-back, Stands-same, Stands-only}
 use Rattle.journal.specs.Records.{IsPayload, frame, IsRecord, AreRecords, end_of, IsEnd, HoldsRecords, IsBadLength, IsBadAt, AllHold}
 
 pub length-frame : (x : List ℕ) → length (frame x) ≡ 4 + length x

@@ -1,5 +1,5 @@
 -- Records read one by one.
-use Rattle.std.proofs.Common.{◌≡◌, ◌≢◌, ◌⊎◌, inl, inr, ◌<◌, ◌≤◌, ℕ, ◌+◌, List, [], ◌∷◌, ◌++◌, length, sym, ◌∙◌, ap, subst, ◌^◌, arith, Option, Some, MatchOption}
+use Rattle.std.proofs.Common.{◌≡◌, ◌≢◌, inl, ◌<◌, ◌≤◌, ℕ, ◌+◌, List, [], ◌∷◌, ◌++◌, length, sym, ◌∙◌, ap, subst, ◌^◌, arith, Option, Some, MatchOption}
 use Rattle.std.specs.Int.{w32, to_le_bytes}
 use Rattle.bank.specs.Content.{Content, Stands, Same}
 use Rattle.bank.specs.View.{View, OnlyRead}

@@ -15,6 +15,9 @@ use site_text::{Bytes, List};
 use std::alloc::Global;
 use std::marker::Model;
 
+/// The most bytes of a journal's area.
+pub const AREA_MAX: u64 = 268_435_456;
+
 /// A journal in area 0 of a store. Contracts see its `place`, at which the next record goes, its `size`, the
 /// bytes of the area, and its `count` of records.
 #[derive(Drop)]
@@ -47,7 +50,7 @@ impl Journal {
         bank: &mut B,
         size: u64,
     ) -> Result<(Journal, List<Bytes>), JournalRefusal>
-        requires { size ≤ 268435456 }
+        requires { size ≤ AREA_MAX }
 
         // No byte and no image comes that was not there, and at `Ok` a crash leaves of the area what was read.
         ensures unchanged { IsTrue B.tells → OnlyRead (B.view bank.old) (B.view bank.new) }

@@ -13,6 +13,9 @@ use bank::{Bank, BankFailed};
 use site_text::{Bytes, List};
 use std::alloc::Global;
 
+/// The most bytes of a record's payload.
+pub const PAYLOAD_MAX: u32 = 1_048_576;
+
 // The length that stands behind an open gate, or none where the gate is closed.
 fn length_in(head: &[u8]) -> Option<u32>
     requires { length head.now ≡ 5 }
@@ -79,7 +82,7 @@ pub fn read_records<B: Bank>(
         let Some(length) = read_head(bank, place)? else {
             return Ok((place, payloads));
         };
-        if length == 0 || length > 1048576 || place + 5 + length as u64 > size {
+        if length == 0 || length > PAYLOAD_MAX || place + 5 + length as u64 > size {
             return Err(JournalRefusal::BadRecord { place, payloads });
         }
         let buffer = vec![in alloc; 0u8; length as usize]?;

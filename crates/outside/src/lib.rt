@@ -4,12 +4,14 @@
 
 mod clock;
 mod folder;
+mod host;
 mod memory;
 mod patterns;
 mod stream;
 
 pub use clock::Clock;
 pub use folder::{Folder, FolderFault, NamedText};
+pub use host::{DiskFolder, StandardInput, StandardOutput, SystemClock};
 pub use memory::{
     LiteralPattern, LiteralPatterns, MemoryClock, MemoryFolder, MemorySink, MemorySource,
 };

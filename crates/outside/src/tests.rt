@@ -1,53 +1,50 @@
-//! What the objects in memory do at the calls that fail, and with ample memory.
+//! What the objects in memory do at the calls that fail, and what the adapters answer.
 
 use super::*;
 use site_text::{Bytes, List};
-use std::alloc::Global;
+use std::alloc::{AllocError, Global};
 use std::test::Fail;
+use std::{env, fs, process};
 
-fn numbers(alloc: Global, items: &[u64]) -> Result<List<u64>, std::alloc::AllocError> {
+fn numbers(alloc: Global, items: &[u64]) -> Result<List<u64>, AllocError> {
     Ok(List::from_vec(Vec::from_slice(alloc, items)?))
 }
 
 #[test]
 fn a_source_gives_short_reads_and_fails_at_its_second(rt: HostRuntime) -> Result<(), Fail> {
-    let alloc = rt.alloc();
-    let text = Bytes::from_slice(alloc, b"hello world")?;
-    let mut source = MemorySource::new(text, 4, numbers(alloc, &[2])?);
+    let text = Bytes::from_slice(rt.alloc(), b"hello world")?;
+    let mut source = MemorySource::new(text, 4, numbers(rt.alloc(), &[2])?);
     let mut piece = [0u8; 6];
-    assert_eq!(rt; source.read(&mut piece), Ok(4));
-    assert_eq!(rt; &piece[..4], b"hell".as_slice());
-    assert_eq!(rt; source.read(&mut piece), Err(Failed {}));
-    assert_eq!(rt; source.left(), b"o world".as_slice());
-    assert_eq!(rt; source.faults(), 1);
-    for want in [4, 3, 0] {
-        assert_eq!(rt; source.read(&mut piece), Ok(want));
+    for want in [Ok(4), Err(Failed {}), Ok(4), Ok(3), Ok(0)] {
+        assert_eq!(rt; source.read(&mut piece), want);
     }
     Ok(())
 }
 
 #[test]
 fn a_sink_keeps_what_came_before_its_fault(rt: HostRuntime) -> Result<(), Fail> {
-    let alloc = rt.alloc();
-    let mut sink = MemorySink::new(alloc, 3, numbers(alloc, &[2])?);
-    assert_eq!(rt; write_all(&mut sink, b"hello"), Err(Failed {}));
-    assert_eq!(rt; sink.written(), b"hel".as_slice());
-    assert_eq!(rt; write_all(&mut sink, b"p, hello"), Ok(()));
-    assert_eq!(rt; sink.written(), b"help, hello".as_slice());
-    assert_eq!(rt; sink.faults(), 1);
+    let mut sink = MemorySink::new(rt.alloc(), 3, numbers(rt.alloc(), &[2])?);
+    for (piece, want) in [(b"hello", Err(Failed {})), (b"p, me", Ok(()))] {
+        assert_eq!(rt; write_all(&mut sink, piece), want);
+    }
+    assert_eq!(rt; sink.written(), b"help, me".as_slice());
     Ok(())
+}
+
+fn named(alloc: Global, name: &[u8], length: usize) -> Result<NamedText, AllocError> {
+    let name = Bytes::from_slice(alloc, name)?;
+    let text = Bytes::from_vec(vec![in alloc; 120; length]?);
+    Ok(NamedText { name, text })
 }
 
 #[test]
 fn a_folder_answers_by_name(rt: HostRuntime) -> Result<(), Fail> {
-    let alloc = rt.alloc();
-    let mut texts = Vec::new(alloc);
+    let mut texts = Vec::new(rt.alloc());
     for (name, length) in [(b"a", 3), (b"b", 70_000), (b"a", 5)] {
-        let name = Bytes::from_slice(alloc, name)?;
-        let text = Bytes::from_vec(vec![in alloc; 120; length]?);
-        texts.push(NamedText { name, text })?;
+        texts.push(named(rt.alloc(), name, length)?)?;
     }
-    let mut folder = MemoryFolder::new(alloc, List::from_vec(texts), numbers(alloc, &[4])?);
+    let failing = numbers(rt.alloc(), &[4])?;
+    let mut folder = MemoryFolder::new(rt.alloc(), List::from_vec(texts), failing);
     for (name, want) in [
         (b"a", Ok(3)),
         (b"b", Ok(65_537)),
@@ -57,38 +54,65 @@ fn a_folder_answers_by_name(rt: HostRuntime) -> Result<(), Fail> {
     ] {
         assert_eq!(rt; folder.read_file(name).map(|text| text.len()), want);
     }
-    assert_eq!(rt; folder.faults(), 1);
     Ok(())
 }
 
 #[test]
 fn a_clock_gives_its_last_moment_again(rt: HostRuntime) -> Result<(), Fail> {
-    let alloc = rt.alloc();
-    let mut clock = MemoryClock::new(numbers(alloc, &[7, 5, 9])?);
+    let mut clock = MemoryClock::new(numbers(rt.alloc(), &[7, 5, 9])?);
     for want in [7, 5, 9, 9, 9] {
         assert_eq!(rt; clock.now(), want);
     }
-    let mut stopped = MemoryClock::new(numbers(alloc, &[])?);
-    assert_eq!(rt; stopped.now(), 0);
     Ok(())
 }
 
 #[test]
 fn literal_patterns_are_found_where_they_stand(rt: HostRuntime) -> Result<(), Fail> {
-    let alloc = rt.alloc();
-    let mut patterns = LiteralPatterns::new(alloc, numbers(alloc, &[2])?, numbers(alloc, &[3])?);
+    let searches = numbers(rt.alloc(), &[3])?;
+    let mut patterns = LiteralPatterns::new(rt.alloc(), numbers(rt.alloc(), &[2])?, searches);
     let pattern = patterns.build(b"lo")?;
-    assert_eq!(rt; patterns.finds(&pattern, b"hello"), Ok(true));
-    assert_eq!(rt; patterns.finds(&pattern, b"l o"), Ok(false));
-    assert_eq!(rt;
-        patterns.finds(&pattern, b"hello"),
-        Err(PatternFault::Failed)
-    );
+    for (subject, want) in [
+        (b"hello", Ok(true)),
+        (b"l o l", Ok(false)),
+        (b"hello", Err(PatternFault::Failed)),
+    ] {
+        assert_eq!(rt; patterns.finds(&pattern, subject), want);
+    }
     assert_eq!(rt; patterns.refused(), b"lo".as_slice());
-    assert_eq!(rt; patterns.build(b"x").is_err(), true);
-    assert_eq!(rt; patterns.refused(), b"x".as_slice());
-    assert_eq!(rt; patterns.faults(), 2);
-    let empty = patterns.build(b"")?;
-    assert_eq!(rt; patterns.finds(&empty, b""), Ok(true));
+    assert!(rt; patterns.build(b"x").is_err());
     Ok(())
+}
+
+#[test]
+fn a_folder_of_the_file_system_gives_the_fronts_of_its_files(rt: HostRuntime) -> Result<(), Fail> {
+    let alloc = rt.alloc();
+    let name = format!(in alloc; "samq_outside_{}", process::id(rt.process()))?;
+    let place = env::temp_dir(&rt)?.join(alloc, name.as_str())?;
+    fs::create_dir_all(&rt, place.as_path())?;
+    let long = vec![in alloc; 120; 70_000]?;
+    fs::write(&rt, place.join(alloc, "long")?, long.as_slice())?;
+    let mut folder = DiskFolder::new(alloc, &rt, place.to_str().ok_or("a path")?)?;
+    for (name, want) in [
+        (b"long".as_slice(), Ok(65_537)),
+        (b"none".as_slice(), Err(FolderFault::NoFile)),
+        (b".".as_slice(), Err(FolderFault::Failed)),
+    ] {
+        assert_eq!(rt; folder.read_file(name).map(|text| text.len()), want);
+    }
+    fs::remove_dir_all(&rt, place.as_path())?;
+    Ok(())
+}
+
+#[test]
+fn the_streams_and_the_clock_of_the_host_answer(rt: HostRuntime) {
+    let mut input = StandardInput::new(b"hello".as_slice());
+    let mut piece = [0u8; 4];
+    for want in [4, 1, 0] {
+        assert_eq!(rt; input.read(&mut piece), Ok(want));
+    }
+    assert_eq!(rt;
+        write_all(&mut StandardOutput::new(&rt), b"written\n"),
+        Ok(())
+    );
+    assert!(rt; 1_700_000_000 < SystemClock::new(&rt).now());
 }

@@ -1,6 +1,4 @@
-use Rattle.std.proofs.Common.{arith, List, ℕ, ◌+◌, length, subst, refl}
-use Rattle.std.specs.Int.{w32, to_le_bytes}
-use Rattle.bank.specs.Content.{Stands}
+use Rattle.std.proofs.Common.{arith}
 use Rattle.bank.proofs.Writes.{wrote, wrote_then, widened}
 use Rattle.journal.proofs.RecordLaws.{ok_then}
 use Rattle.journal.proofs.Append.{three_writes}

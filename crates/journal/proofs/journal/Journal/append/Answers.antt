@@ -1,5 +1,4 @@
-use Rattle.std.proofs.Common.{◌≡◌, ◌+◌, ◌≤◌, ◌∙◌, ap, length, arith, IsTrue}
-use Rattle.bank.proofs.Writes.{wrote_then, widened}
+use Rattle.std.proofs.Common.{◌+◌, ◌≤◌, ◌∙◌, ap, length, arith}
 use Rattle.journal.specs.State.{JournalState}
 use Rattle.bank.proofs.Readings.{nothing_read, read_is_write}
 use Rattle.journal.proofs.Append.{untouched, stage_moments, gate_moments, acknowledged}

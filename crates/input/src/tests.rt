@@ -1,0 +1,100 @@
+//! The lines of hand-made texts, and the reader against the slow program.
+
+use super::*;
+use outside::{MemorySource, Source};
+use site_text::{Bytes, List};
+use std::alloc::{AllocError, Global};
+use std::test::Fail;
+
+// A source of a text that gives so many bytes at once and fails at one call, if at any.
+fn source(
+    alloc: Global,
+    text: &[u8],
+    most: usize,
+    failing: u64,
+) -> Result<MemorySource, AllocError> {
+    let text = Bytes::from_slice(alloc, text)?;
+    let failing = List::from_vec(vec![in alloc; failing]?);
+    Ok(MemorySource::new(text, most.max(1), failing))
+}
+
+#[test]
+fn an_input_is_read_line_by_line(rt: HostRuntime) -> Result<(), Fail> {
+    let mut source = source(rt.alloc(), b"put\r\n\nlast\r", 3, 0)?;
+    let mut reader = Reader::new(rt.alloc(), 12)?;
+    for want in [b"put".as_slice(), b"", b"last\r"] {
+        assert_eq!(rt; next_line(&mut reader, &mut source), LineRead::Line);
+        assert_eq!(rt; reader.line(), want);
+    }
+    assert_eq!(rt; next_line(&mut reader, &mut source), LineRead::Ended);
+    Ok(())
+}
+
+#[test]
+fn a_budget_and_a_fault_end_an_input(rt: HostRuntime) -> Result<(), Fail> {
+    for (budget, failing, want) in [
+        (7, 0, LineRead::Ended),
+        (6, 0, LineRead::OverBudget),
+        (4, 0, LineRead::OverBudget),
+        (9, 2, LineRead::SourceFault),
+    ] {
+        let mut source = source(rt.alloc(), b"one\ntwo", 4, failing)?;
+        let mut reader = Reader::new(rt.alloc(), budget)?;
+        let first = next_line(&mut reader, &mut source);
+        assert_eq!(rt; first, LineRead::Line);
+        let mut second = next_line(&mut reader, &mut source);
+        if second == LineRead::Line {
+            second = next_line(&mut reader, &mut source);
+        }
+        assert_eq!(rt; second, want, "budget {budget}");
+    }
+    Ok(())
+}
+
+// Whether the reader gives the lines that the slow program gives.
+fn agrees<S: Source>(reader: &mut Reader, source: &mut S, lines: &[RawLine]) -> bool {
+    for line in lines {
+        let same = match (next_line(reader, source), line) {
+            (LineRead::Line, RawLine::Kept(bytes)) => bytes.as_slice() == reader.line(),
+            (LineRead::TooLong, RawLine::Long) => true,
+            _ => false,
+        };
+        if !same {
+            return false;
+        }
+    }
+    next_line(reader, source) == LineRead::Ended
+}
+
+// A text of so many letters with an end after them, and a further line.
+fn long_text(alloc: Global, letters: usize, end: &[u8]) -> Result<Vec<u8>, AllocError> {
+    let mut text = vec![in alloc; 120; letters]?;
+    text.extend_from_slice(end)?;
+    text.extend_from_slice(b"next\n")?;
+    Ok(text)
+}
+
+#[test]
+fn the_reader_agrees_with_the_slow_program(rt: HostRuntime) -> Result<(), Fail> {
+    for (letters, end, kept) in [
+        (4096, b"\r\n".as_slice(), true),
+        (4096, b"\n", true),
+        (4097, b"\n", false),
+        (4096, b"\r\r\n", false),
+        (70_000, b"\r\n", false),
+    ] {
+        let text = long_text(rt.alloc(), letters, end)?;
+        let lines = plain_lines(rt.alloc(), &text)?;
+        assert_eq!(rt;
+            matches!(lines.as_slice().first(), Some(RawLine::Kept(_))),
+            kept
+        );
+        let mut source = source(rt.alloc(), &text, 1000, 0)?;
+        let mut reader = Reader::new(rt.alloc(), 100_000)?;
+        assert!(rt;
+            agrees(&mut reader, &mut source, lines.as_slice()),
+            "{letters} letters"
+        );
+    }
+    Ok(())
+}

@@ -1,0 +1,161 @@
+//! Tests of the journal over a store in memory. The values come from the format.
+
+use crate::{AppendRefusal, Journal, JournalRefusal};
+use bank::{Bank, BankCall, FailAt, MemoryBank};
+use site_text::{Bytes, List};
+use std::alloc::{AllocError, Global};
+use std::process::Abort;
+use std::test::Fail;
+
+// The payloads as a text: the bytes of short ones, the lengths of others.
+fn listed(alloc: Global, payloads: &List<Bytes>) -> Result<String, AllocError> {
+    let mut text = String::new(alloc);
+    for payload in payloads.as_slice() {
+        text = if payload.len() < 8 {
+            format!(in alloc; "{text} {:?}", payload.as_slice())?
+        } else {
+            format!(in alloc; "{text} {}", payload.len())?
+        };
+    }
+    Ok(text)
+}
+
+// What a reopening in so many bytes answers.
+fn reopened(
+    rt: &impl Abort,
+    alloc: Global,
+    bank: &mut MemoryBank,
+    size: u64,
+) -> Result<String, AllocError> {
+    assert!(rt; size <= 268435456);
+    match Journal::reopen(alloc, bank, size) {
+        Ok((_, payloads)) => {
+            let records = listed(alloc, &payloads)?;
+            format!(in alloc; "ok{records}")
+        }
+        Err(JournalRefusal::BadRecord { place, payloads }) => {
+            let records = listed(alloc, &payloads)?;
+            format!(in alloc; "bad {place}{records}")
+        }
+        Err(JournalRefusal::BankFault) => String::from_str(alloc, "fault"),
+        Err(JournalRefusal::NoMemory) => String::from_str(alloc, "no memory"),
+    }
+}
+
+// What appending so many bytes answers.
+fn appended(
+    rt: &impl Abort,
+    alloc: Global,
+    journal: &mut Journal,
+    bank: &mut MemoryBank,
+    length: usize,
+) -> Result<Result<u64, AppendRefusal>, AllocError> {
+    assert!(rt; length > 0 && length <= 1048576);
+    let payload = vec![in alloc; 7u8; length]?;
+    Ok(journal.append(bank, &payload))
+}
+
+// How many writes were made.
+fn writes(bank: &MemoryBank) -> usize {
+    bank.calls()
+        .iter()
+        .filter(|c| c.kind == BankCall::Write)
+        .count()
+}
+
+#[test]
+fn reads_what_the_format_says(rt: HostRuntime) -> Result<(), Fail> {
+    let rows: [(&[u8], u64, &str); 11] = [
+        (&[], 64, "ok"),
+        (&[2, 1, 0, 0, 0, 7], 64, "ok"),
+        (
+            &[1, 5, 0, 0, 0, 255, 0, 0, 0, 0],
+            268435456,
+            "ok [255, 0, 0, 0, 0]",
+        ),
+        (
+            &[1, 1, 0, 0, 0, 7, 1, 2, 0, 0, 0, 8, 9],
+            64,
+            "ok [7] [8, 9]",
+        ),
+        (&[1, 1, 0, 0, 0, 7], 6, "ok [7]"),
+        (&[1, 1, 0, 0, 0, 7, 1, 1, 0, 0, 0, 7], 6, "ok [7]"),
+        (&[1, 1, 0, 0, 0, 7], 5, "bad 0"),
+        (&[1], 64, "bad 0"),
+        (&[1, 1, 0, 16, 0], 268435456, "bad 0"),
+        (&[1, 1, 0, 0, 0, 7, 1, 0, 0, 0, 0], 64, "bad 6 [7]"),
+        (&[1, 1, 0, 0, 0, 7, 1, 54, 0, 0, 0], 64, "bad 6 [7]"),
+    ];
+    for (bytes, size, expected) in rows {
+        let mut bank = MemoryBank::new(rt.alloc(), List::new(rt.alloc()))?;
+        assert!(rt; bytes.len() < 100);
+        bank.write(0, 0, bytes)?;
+        let answer = reopened(&rt, rt.alloc(), &mut bank, size)?;
+        assert_eq!(rt; answer.as_str(), expected);
+    }
+    Ok(())
+}
+
+#[test]
+fn appends_until_it_is_full(rt: HostRuntime) -> Result<(), Fail> {
+    // the size, the lengths of three payloads, the number of the last record, and how many writes were made
+    let rows: [(u64, [usize; 3], u64, usize, &str); 5] = [
+        (16, [10, 1, 1], 1, 2, "ok 10"),
+        (21, [10, 1, 2], 1, 2, "ok 10"),
+        (22, [10, 1, 2], 2, 4, "ok 10 [7]"),
+        (64, [10, 43, 1], 2, 4, "ok 10 43"),
+        (20000, [4096, 4097, 5], 3, 8, "ok 4096 4097 [7, 7, 7, 7, 7]"),
+    ];
+    for (size, lengths, last, made, expected) in rows {
+        let mut bank = MemoryBank::new(rt.alloc(), List::new(rt.alloc()))?;
+        assert!(rt; size <= 20000);
+        let Ok((mut journal, _)) = Journal::reopen(rt.alloc(), &mut bank, size) else {
+            panic!(rt; "not reopened");
+        };
+        let mut number = 0;
+        for length in lengths {
+            match appended(&rt, rt.alloc(), &mut journal, &mut bank, length)? {
+                Ok(n) => number = n,
+                Err(e) => assert_eq!(rt; e, AppendRefusal::JournalFull),
+            }
+        }
+        assert_eq!(rt; number, last, "of {size}");
+        assert_eq!(rt; writes(&bank), made, "of {size}");
+        let answer = reopened(&rt, rt.alloc(), &mut bank, size)?;
+        assert_eq!(rt; answer.as_str(), expected);
+    }
+    Ok(())
+}
+
+#[test]
+fn fails_with_the_store(rt: HostRuntime) -> Result<(), Fail> {
+    // the call that fails, whether it fails the reopening, and what the next reopening reads
+    let rows = [
+        (BankCall::Sync, 1, true, "ok"),
+        (BankCall::Read, 1, true, "ok"),
+        (BankCall::Write, 1, false, "ok"),
+        (BankCall::Sync, 2, false, "ok"),
+        (BankCall::Write, 2, false, "ok"),
+        (BankCall::Sync, 3, false, "ok [7, 7]"),
+    ];
+    for (call, number, at_once, expected) in rows {
+        let mut fail = List::new(rt.alloc());
+        fail.push(FailAt {
+            area: 0,
+            call,
+            number,
+        })?;
+        let mut bank = MemoryBank::new(rt.alloc(), fail)?;
+        match Journal::reopen(rt.alloc(), &mut bank, 64) {
+            Ok((mut journal, _payloads)) => {
+                let answer = appended(&rt, rt.alloc(), &mut journal, &mut bank, 2)?;
+                assert_eq!(rt; answer, Err(AppendRefusal::BankFault));
+                assert!(rt; !at_once);
+            }
+            Err(_refusal) => assert!(rt; at_once),
+        }
+        let answer = reopened(&rt, rt.alloc(), &mut bank, 64)?;
+        assert_eq!(rt; answer.as_str(), expected);
+    }
+    Ok(())
+}
