@@ -174,6 +174,7 @@ module _ (a b c : Option (List ℕ)) (x y z : Reading) (long : Bool) (s : SoFar 
     some = omega (arith, length-append s.used (byte ∷ []));
     whole = λ _. record { first = λ more ended. next_read a b c x y z long s byte more ended ∙ ap (λ (k : ℕ). lines_after s.front (k ∷ more) ended) ten ∙ fed s.front more ended };
     last = λ h. absurd (let e2 : true ≡ false = sym h ∙ no_end' in cc);
+    drained = λ h. absurd (let e2 : true ≡ false = sym h ∙ no_end' in cc);
   })
     where
       moved_on : Moved a c x z (s.used ++ byte ∷ []) [] → Moved a c x (record z { line = without_return z.line }) (s.used ++ byte ∷ []) []
@@ -189,14 +190,15 @@ module _ (a b c : Option (List ℕ)) (x y z : Reading) (long : Bool) (s : SoFar 
   used_end ended = ap (λ (l : List ℕ). raw_lines l ended) (sym (append-nil s.used)) ∙ s.reads [] ended
 
   -- a last line without a line feed
-  pub last_line : (res : LineRead) → z.line ≡ y.line → TellsLine res z.line (cond long Long (line_of z.line)) → 0 < length z.line → Moved b c y z [] [] → z.ended ≡ true → ReadsLine a c x z res
-  last_line res same tells some m end = tells_read a c x z res (line_of s.front) told record {
+  pub last_line : (res : LineRead) → z.line ≡ y.line → TellsLine res z.line (cond long Long (line_of z.line)) → 0 < length z.line → Moved b c y z [] [] → z.ended ≡ true → z.held ≡ [] → ReadsLine a c x z res
+  last_line res same tells some m end holds = tells_read a c x z res (line_of s.front) told record {
     used = s.used;
     moved = then_stopped a b c x y z s.used [] s.moved m;
     was_open = not_true x.ended (λ was. absurd (let e : length s.front ≡ 0 = ap length (s.none was).1 in omega (arith, e, has)));
     some = omega (arith, s.as_long, has);
     whole = λ h. absurd (let e2 : true ≡ false = sym end ∙ h in cc);
     last = λ _. used_end true ∙ ended_with s.front has;
+    drained = λ _. holds;
   }
     where
       has : 0 < length s.front
@@ -205,11 +207,12 @@ module _ (a b c : Option (List ℕ)) (x y z : Reading) (long : Bool) (s : SoFar 
       told : TellsLine res z.line (line_of s.front)
       told = subst (λ (l : RawLine). TellsLine res z.line l) (ap (λ (l : List ℕ). cond long Long (line_of l)) same ∙ is_line s.front y.line long s.kept) tells
 
-  pub no_line : z.line ≡ y.line → length z.line ≡ 0 → Moved b c y z [] [] → z.ended ≡ true → ReadsLine a c x z Ended
-  no_line same nothing m end = record {
+  pub no_line : z.line ≡ y.line → length z.line ≡ 0 → Moved b c y z [] [] → z.ended ≡ true → z.held ≡ [] → ReadsLine a c x z Ended
+  no_line same nothing m end holds = record {
     used = s.used;
     moved = then_stopped a b c x y z s.used [] s.moved m;
     ended = end;
+    nothing_held = holds;
     again = λ was. (s.none was).0;
     none = used_end true ∙ ap (λ (l : List ℕ). lines_after l [] true) (front_none s.front y.line long s.kept (sym (ap length same) ∙ nothing));
   }

@@ -68,10 +68,11 @@ module _ {A B : Type 0} (f : A → B) (items : Items A) (a b : Option (List ℕ)
     some = r.some;
     whole = λ open_. record { first = λ more ended. ap (λ l. map f l) ((r.whole open_).first more ended) };
     last = λ ended. ap (λ l. map f l) (r.last ended);
+    drained = r.drained;
   }
 
   pub map-meets_end : MeetsEnd items a b x y → MeetsEnd (seen_through f items) a b x y
-  map-meets_end r = record { used = r.used; moved = r.moved; ended = r.ended; again = r.again; none = ap (λ l. map f l) r.none }
+  map-meets_end r = record { used = r.used; moved = r.moved; ended = r.ended; nothing_held = r.nothing_held; again = r.again; none = ap (λ l. map f l) r.none }
 
   pub map-stops_at_fault : StopsAtFault items a b x y → StopsAtFault (seen_through f items) a b x y
   map-stops_at_fault r = record { used = r.used; moved = r.moved; still_open = r.still_open; nothing_held = r.nothing_held; none = ap (λ l. map f l) r.none }

@@ -6,7 +6,7 @@ use Rattle.input.specs.Reading.{Reading, Moved}
 
 -- no further byte was taken within the budget, for this reason
 abbrev pub Stops : Option (List ℕ) → Option (List ℕ) → Reading → Reading → Stop → Type 0
-Stops before now old new Ended = Moved before now old new [] [] × (new.ended ≡ true)
+Stops before now old new Ended = Moved before now old new [] [] × (new.ended ≡ true) × (new.held ≡ [])
 Stops before now old new SourceFault = Moved before now old new [] [] × (new.held ≡ []) × (new.ended ≡ false)
 Stops before now old new OverBudget = (extra : ℕ) × Moved before now old new [] (extra ∷ []) × (new.held ≡ []) × (new.budget ≡ 0) × (new.ended ≡ false)
 

@@ -46,12 +46,14 @@ pub record ReadsItem {A : Type 0} (items : Items A) (before now : Option (List �
   pub some : 0 < length used
   pub whole : new.ended ≡ false → IsItem items used item
   pub last : new.ended ≡ true → items used true ≡ item ∷ []
+  pub drained : new.ended ≡ true → new.held ≡ []
 
 -- the end of the source was met, and no item was left
 pub record MeetsEnd {A : Type 0} (items : Items A) (before now : Option (List ℕ)) (old new : Reading) : Type 0 where
   pub used : List ℕ
   pub moved : Moved before now old new used []
   pub ended : new.ended ≡ true
+  pub nothing_held : new.held ≡ []
   pub again : old.ended ≡ true → used ≡ []
   pub none : items used true ≡ []
 

@@ -54,7 +54,7 @@ returns-in-Err-Ended-clause-read g c =
     let some : length c.next_byte.new.self.line ≡ 0 → ⊥ = λ e. is_not_empty _ _ c.is_empty.ensures c.if-is_empty.false (ap length c.line-in-Err-Ended.ensures ∙ e) in
     last_line _ _ _ c.args.reader.now c.loop-reader.reader c.next_byte.new.self c.loop-reader.long c.loop-reader.invariant.so_far c.whole-in-Err-Ended.result c.in-Err-Ended.ensures.line
     (subst (λ (l : List ℕ). TellsLine c.whole-in-Err-Ended.result l (cond c.loop-reader.long Long (line_of l))) c.line-in-Err-Ended-2.ensures c.whole-in-Err-Ended.ensures)
-    (omega (arith, some)) next.0 next.1
+    (omega (arith, some)) next.0 next.1 next.2
 
 pub returns-in-Err-SourceFault-clause-read : goal.returns-in-Err-SourceFault-clause-read
 returns-in-Err-SourceFault-clause-read g c =
