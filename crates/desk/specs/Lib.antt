@@ -1,2 +1,4 @@
+pub mod Asks
+pub mod Forms
 pub mod Texts
 pub mod Words

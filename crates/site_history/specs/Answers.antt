@@ -12,7 +12,7 @@ use Rattle.records.specs.declared.step.StepKind.TheVariants.{Put}
 use Rattle.records.specs.Paths.{is_legal_path, is_legal_name}
 use Rattle.cache_space.specs.Blocks.{blocks_for, free_blocks, lowest_runs}
 use Rattle.site_history.specs.Site.{Fields, file_at, held_runs}
-use Rattle.site_history.specs.Steps.{HistoryStep, inode_for}
+use Rattle.site_history.specs.Steps.{HistoryStep, PutOf, inode_for}
 
 -- a reply, and the step that it makes, if it makes one
 pub record Answer : Type 0 where
@@ -22,7 +22,13 @@ pub record Answer : Type 0 where
 abbrev pub refused : Rule → Answer
 refused rule = record { reply = Refused rule; step = None }
 
--- the step of a put: it takes the lowest free blocks
+-- what a put stores: it takes the lowest free blocks
+abbrev pub put_for : Fields → List ℕ → List ℕ → List ℕ → ℕ → PutOf
+put_for fields path owner group size = record {
+  inode = inode_for fields path; path = path; owner = owner; group = group; length = size;
+  runs = lowest_runs fields.blocks (held_runs fields.files) (blocks_for size) }
+
+-- its step
 abbrev pub put_made : Fields → ℕ → List ℕ → List ℕ → List ℕ → ℕ → Step
 put_made fields moment path owner group size = record {
   moment = moment;
