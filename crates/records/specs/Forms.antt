@@ -28,6 +28,9 @@ pub record Begins {A : Type 0} (form : Form A) (bytes : List ℕ) (x : A) (rest 
 
 -- A number: its bytes, least first.
 
+unfoldable pub number_bytes : Width → ℕ → List ℕ
+number_bytes w n = to_le_bytes w n
+
 abbrev pub IsWithin : ℕ → ℕ → ℕ → Type 0
 IsWithin least most n = (least ≤ n) × (n ≤ most)
 
@@ -36,7 +39,7 @@ is_within least most n = nat_le least n && nat_le n most
 
 abbrev pub NumberRefuses : Width → ℕ → ℕ → List ℕ → StepRefusal → Type 0
 NumberRefuses w least most bytes Truncated = length bytes < byte_len w
-NumberRefuses w least most bytes BadField = (n : ℕ) × (rest : List ℕ) × (n < 2 ^ (8 * byte_len w)) × (bytes ≡ to_le_bytes w n ++ rest) × (¬ (IsWithin least most n))
+NumberRefuses w least most bytes BadField = (n : ℕ) × (rest : List ℕ) × (n < 2 ^ (8 * byte_len w)) × (bytes ≡ number_bytes w n ++ rest) × (¬ (IsWithin least most n))
 NumberRefuses w least most bytes _ = ⊥
 
 unfoldable pub number_at : Width → List ℕ → Result (ℕ × List ℕ) StepRefusal
@@ -47,7 +50,7 @@ number_within w least most bytes = number_at w bytes >>= λ n. if is_within leas
 
 abbrev pub number_of : Width → ℕ → ℕ → Form ℕ
 number_of w least most = record {
-  written = to_le_bytes w;
+  written = number_bytes w;
   InRange = IsWithin least most;
   Refuses = NumberRefuses w least most;
   read = number_within w least most;
@@ -85,7 +88,7 @@ text_at bytes = number_within w32 0 (2 ^ 32 - 1) bytes >>= λ n. if nat_lt (leng
 
 abbrev pub text : Form (List ℕ)
 text = record {
-  written = λ bytes. to_le_bytes w32 (length bytes) ++ bytes;
+  written = λ bytes. number_bytes w32 (length bytes) ++ bytes;
   InRange = λ bytes. length bytes < 2 ^ 32;
   Refuses = TextRefuses;
   read = text_at;
@@ -134,7 +137,7 @@ list_at least most item bytes = number_within w32 least most bytes >>= λ n. ite
 
 abbrev pub list_of : {A : Type 0} → ℕ → ℕ → Form A → Form (List A)
 list_of least most item = record {
-  written = λ xs. to_le_bytes w32 (length xs) ++ flat_map item.written xs;
+  written = λ xs. number_bytes w32 (length xs) ++ flat_map item.written xs;
   InRange = λ xs. IsWithin least most (length xs) × AllByRecursion item.InRange xs;
   Refuses = ListRefuses least most item;
   read = list_at least most item;

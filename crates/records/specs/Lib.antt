@@ -1,5 +1,9 @@
 -- definitions of the plain types
+pub mod Copies
 pub mod Forms
+pub mod Lengths
 pub mod Paths
+pub mod Ranges
 pub mod Reading
+pub mod Writing
 pub mod Written

@@ -1,8 +1,10 @@
 //! A step from its written form.
 
-ghost use Rattle.std.specs.Prelude.{◌≡◌, ℕ, IfOk, Ok, Err};
+ghost use Rattle.std.specs.Prelude.{◌≡◌, ℕ, IfOk, IfErr, Ok, Err};
 ghost use Rattle.records.specs.Reading.{Gives, read_as, make_put, make_renamed, make_attributed, make_copy, make_rearchive, make_unarchived, make_released, make_staged, make_damaged, make_relabelled, make_flagged, kind_at, fields_at, step_at};
-ghost use Rattle.records.specs.Written.{configured, put, one_file, renamed, attributed, copy_made, one_copy, released, wanted, staged, damaged, recycling, relabelled, flagged};
+ghost use Rattle.records.specs.Written.{written, InRange, IsRefused, configured, put, one_file, renamed, attributed, copy_made, one_copy, released, wanted, staged, damaged, recycling, relabelled, flagged};
+ghost use Rattle.records.specs.declared.step.Step.{Step};
+ghost use Rattle.records.specs.declared.refusal.StepRefusal.{StepRefusal};
 
 use crate::fields::{
     copy_of, ends_of, flag_of, index_of, inode_of, inodes_of, members_of, moment_of, number_of,
@@ -255,4 +257,23 @@ fn step_of(alloc: Global, bytes: &[u8]) -> Result<Step, StepRefusal>
             fields_of(alloc, *kind, rest)
         }
     }
+}
+
+/// The step that the bytes are the written form of. The one written form of each step whose fields
+/// are in range is read, and nothing else: at the first field without a reading the refusal is
+/// `Truncated` where the bytes end in it, `BadKind` where it is a kind that is none, and `BadField`
+/// where its value is out of range or where bytes follow the last field.
+pub fn decode_step(alloc: Global, bytes: &[u8]) -> Result<Step, StepRefusal>
+    // What is read is written so.
+    ensures found { IfOk result (λ s. InRange s × (bytes.now ≡ written s)) }
+    // What is written so is read, unless memory runs out.
+    ensures only { (s : Step) → InRange s → bytes.now ≡ written s → Gives (λ t. t) result (Ok s) }
+    // A refusal tells of the first field without a reading.
+    ensures refused { IfErr result (λ e. (¬ (e ≡ StepRefusal.NoMemory)) → IsRefused bytes.now e) }
+    // Where there is such a field, it is what the refusal tells of, unless memory runs out.
+    ensures refuses { (e : StepRefusal) → IsRefused bytes.now e → Gives (λ t. t) result (Err e) }
+    // The same as a function of the bytes.
+    ensures exact { Gives (λ s. s) result (step_at bytes.now) }
+{
+    step_of(alloc, bytes)
 }

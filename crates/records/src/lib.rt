@@ -1,20 +1,27 @@
 //! The plain types of a site: its files, its steps, what it is asked and what it answers.
 #![tactic(auto)]
 
+mod copies;
 mod decode;
+mod encode;
 mod event;
 mod fields;
 mod file;
+mod unique;
 mod names;
 mod refusal;
 mod reply;
 mod step;
+mod write;
 
+pub use decode::decode_step;
+pub use encode::encode_step;
 pub use event::{Asked, AttributeChange, Daemon, Event};
 pub use file::{
     CopyRec, CopySlot, CopySlots, FileRec, Flag, ReleaseKind, Run, Section, SiteTexts, StageKind,
     VolumeRec,
 };
+pub use unique::{one_form, ranges, written_length};
 pub use names::{is_legal_name, is_legal_path};
 pub use refusal::StepRefusal;
 pub use reply::{
@@ -22,3 +29,6 @@ pub use reply::{
     SummaryRow, VolumeRow, Vsn,
 };
 pub use step::{Member, Step, StepKind, VolumeEnd};
+
+#[cfg(test)]
+mod tests;

@@ -1,0 +1,45 @@
+-- How long the written form of a step is.
+use Rattle.std.specs.Prelude.{ℕ, ◌+◌, ◌*◌, List, length}
+use Rattle.std.specs.List.{sum_by}
+use Rattle.records.specs.declared.file.SiteTexts.{SiteTexts}
+use Rattle.records.specs.declared.step.Member.{Member}
+use Rattle.records.specs.declared.step.Step.{Step}
+use Rattle.records.specs.declared.step.StepKind.{StepKind}
+use Rattle.records.specs.declared.step.StepKind.TheVariants.{Configured, Put, Accessed, Removed, Renamed, Attributed, CopyMade, Rearchive, Unarchived, Released, Wanted, Staged, StageFailed, Damaged, Recycling, Relabelled, Flagged}
+
+abbrev pub text_length : List ℕ → ℕ
+text_length bytes = 4 + length bytes
+
+abbrev pub texts_length : SiteTexts → ℕ
+texts_length t = text_length t.site + (text_length t.archiver + (text_length t.stager + (text_length t.releaser + text_length t.recycler)))
+
+-- a list of items of one length
+abbrev pub items_length : {A : Type 0} → ℕ → List A → ℕ
+items_length each xs = 4 + each * length xs
+
+abbrev pub member_length : Member → ℕ
+member_length m = 16 + items_length 32 m.sections
+
+-- the bytes of the fields of each kind
+abbrev pub fields_length : StepKind → ℕ
+fields_length (Configured t) = texts_length t
+fields_length (Put i path owner group n runs) = 28 + (length path + (length owner + (length group + items_length 8 runs)))
+fields_length (Accessed i) = 8
+fields_length (Removed i) = 8
+fields_length (Renamed i path) = 8 + text_length path
+fields_length (Attributed i release partial stage) = 18
+fields_length (CopyMade set copy key members ends) = 16 + (text_length key + (4 + sum_by member_length members + items_length 16 ends))
+fields_length (Rearchive i copy) = 16
+fields_length (Unarchived i copy) = 16
+fields_length (Released i cached) = 16
+fields_length (Wanted inodes) = items_length 8 inodes
+fields_length (Staged i copy runs) = 16 + items_length 8 runs
+fields_length (StageFailed i) = 8
+fields_length (Damaged i copy on) = 17
+fields_length (Recycling volume) = 8
+fields_length (Relabelled volume label) = 16
+fields_length (Flagged volume flag on) = 10
+
+-- a byte of the kind, eight of the moment, and the fields
+abbrev pub step_length : Step → ℕ
+step_length s = 9 + fields_length s.kind

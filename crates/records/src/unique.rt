@@ -1,0 +1,27 @@
+//! Laws of the written form.
+
+ghost use Rattle.std.specs.Prelude.{◌≡◌, ℕ, ◌++◌, List, length};
+ghost use Rattle.records.specs.declared.step.Step.{Step};
+ghost use Rattle.records.specs.Lengths.{step_length};
+ghost use Rattle.records.specs.Ranges.{IsMoment, Ranges};
+ghost use Rattle.records.specs.Written.{written, InRange};
+
+/// No written form begins another: what is written one behind the other is read again, whatever
+/// follows.
+pub fn one_form()
+    ensures { (s t : Step) (more rest : List ℕ) → InRange s → InRange t → written s ++ more ≡ written t ++ rest → (s ≡ t) × (more ≡ rest) }
+{
+}
+
+/// The length of a written form, which is never 0.
+pub fn written_length()
+    ensures { (s : Step) → length (written s) ≡ step_length s }
+{
+}
+
+/// A step is in range exactly where its moment and the fields of its kind are.
+pub fn ranges()
+    ensures in_range { (s : Step) → IsMoment s.moment → Ranges s.kind → InRange s }
+    ensures ranges { (s : Step) → InRange s → IsMoment s.moment × Ranges s.kind }
+{
+}
