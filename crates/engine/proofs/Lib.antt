@@ -1,0 +1,4 @@
+pub mod Finds
+pub mod Preparing
+pub mod Recording
+pub mod Space

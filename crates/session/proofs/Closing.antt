@@ -1,0 +1,266 @@
+-- From a loop that goes on to a session that has ended.
+use Rattle.std.proofs.Common.{◌≡◌, ◌⊎◌, inl, inr, ℕ, ◌+◌, ◌<◌, ◌≤◌, List, [], ◌∷◌, ◌++◌, length, take, map, refl, sym, ◌∙◌, ap, subst, arith, Bool, true, false, cond, append_assoc, length-append, Option, Some, None, IsTrue}
+use Rattle.std.proofs.lemmas.List.{append-nil}
+use Rattle.std.proofs.KnownBytes.{Appends-nil, Appends-trans}
+use Rattle.std.specs.Io.KnownBytes.{Appends, Consumes, IsAtEnd}
+use Rattle.site_text.specs.Causes.{Rose, AreCounted}
+use Rattle.desk.specs.Texts.{text_of}
+use Rattle.input.specs.Reading.{Reading, Items, Moved}
+use Rattle.input.proofs.Steps.{stays, then_moved}
+use Rattle.site_history.specs.Worlds.{World}
+use Rattle.session.specs.Asking.{Request}
+use Rattle.session.specs.Rounds.{Round, IsRoundOf, GoOn, ends_run, IsRun, world_after, asked, output, AreInTime, mark_of, marks_from, cause_of, first_of, status_from, faults_of, faults_in, calm}
+use Rattle.session.specs.Machine.{told_of, machine_run}
+use Rattle.session.specs.Session.{Outside, IsSession, Ends, status_of}
+use Rattle.session.specs.Hearing.{Takes, Stops}
+use Rattle.session.specs.OneRound.{IsRound, Tells}
+use Rattle.session.specs.Ran.{Ran}
+use Rattle.session.specs.declared.kept.Mark.{Mark}
+use Rattle.session.specs.declared.kept.Ending.{Ending}
+use Rattle.session.specs.declared.kept.Ending.TheVariants.{Ended, Closed, SourceFault, SinkFault, OverBudget, NoMemory}
+use Rattle.session.proofs.RoundLaws.{run_more, after_more, asked_more, output_more, marks_more, marks-length, in_time_more, status_then, status_more, faults_more, counted_more, first_none, go_on_more}
+use Rattle.session.proofs.MachineLaws.{fixed_run}
+
+cases : (b : Bool) → (b ≡ true) ⊎ (b ≡ false)
+cases true = inl refl
+cases false = inr refl
+
+module _ (Asks : Items Request) (Stands : World → Type 0) (tells : Bool) (size at_moment : ℕ) (old now : Outside) (start reader : Reading) (first : World) (marks : List Mark) (status : ℕ)
+    (r : Ran Asks Stands tells size at_moment old now start reader first marks status) where
+  -- the reader stopped, and no request was left
+  module _ (left' : Option (List ℕ)) (reader' : Reading) (used beyond : List ℕ) (m : Moved now.left left' reader reader' used beyond) where
+    all_moved : Moved old.left left' start reader' (r.used ++ used) beyond
+    all_moved = then_moved old.left now.left left' start reader reader' r.used used beyond r.moved m
+
+    all_asked : reader'.held ≡ [] → Asks used reader'.ended ≡ [] → (reader.ended ≡ true → used ≡ []) → Asks ((r.used ++ used) ++ reader'.held) reader'.ended ≡ asked r.rounds
+    all_asked drained none again = ap (λ (l : List ℕ). Asks ((r.used ++ used) ++ l) reader'.ended) drained ∙ ap (λ (l : List ℕ). Asks l reader'.ended) (append-nil (r.used ++ used)) ∙ elim (cases reader.ended) [
+      | inl e ↦ ap (λ (l : List ℕ). Asks (r.used ++ l) reader'.ended) (again e) ∙ ap (λ (l : List ℕ). Asks l reader'.ended) (append-nil r.used) ∙ ap (λ (b : Bool). Asks r.used b) (m.done e).1 ∙ r.whole e
+      | inr e ↦ r.opened e used reader'.ended ∙ ap (λ (l : List Request). asked r.rounds ++ l) none ∙ append-nil (asked r.rounds)
+    ]
+
+    at_read : (source_faults : ℕ) → start.held ≡ [] → start.ended ≡ false → reader'.held ≡ [] → Asks used reader'.ended ≡ [] → (reader.ended ≡ true → used ≡ []) → (ending : Ending)
+        → Ends start.budget old (record now { left = left'; source_faults = source_faults }) all_moved.more beyond reader'.ended r.rounds [] [] [] ending
+        → IsSession Asks Stands tells size at_moment start.budget old (record now { left = left'; source_faults = source_faults }) first marks (first_of status (status_of ending))
+    at_read source_faults fresh was_open drained none again ending ends =
+        let same : all_moved.more ≡ (r.used ++ used) ++ reader'.held = ap (λ (l : List ℕ). l ++ all_moved.more) (sym fresh) ∙ all_moved.split in
+        let nil = append-nil r.rounds in
+        let asks : asked (r.rounds ++ []) ++ [] ≡ Asks all_moved.more reader'.ended =
+        append-nil (asked (r.rounds ++ [])) ∙ ap asked nil ∙ sym (ap (λ (l : List ℕ). Asks l reader'.ended) same ∙ all_asked drained none again) in
+        let run : IsRun size at_moment first (r.rounds ++ []) = subst (λ (l : List Round). IsRun size at_moment first l) (sym nil) r.run in
+        record {
+          read = all_moved.more;
+          beyond = beyond;
+          taken = all_moved.took;
+          within = omega (arith, all_moved.budget);
+          met_end = reader'.ended;
+          end = all_moved.end (λ e. absurd (let c : true ≡ false = sym e ∙ was_open in cc));
+          told = r.rounds;
+          untold = [];
+          unasked = [];
+          asks = asks;
+          run = run;
+          stands = subst (λ (l : List Round). Stands (world_after first l)) (sym nil) r.stands;
+          cut = [];
+          lost = [];
+          cut_off = refl;
+          written = subst (λ (l : List ℕ). Appends old.written now.written l) (sym (append-nil (output r.rounds))) r.written;
+          marks_told = r.marks_told;
+          in_time = λ t. subst (λ (l : List Round). AreInTime old.moment l now.moment) (sym nil) (r.in_time t);
+          counted = subst (λ (l : List Round). AreCounted old.bank_faults (faults_in l) now.bank_faults) (sym nil) r.counted;
+          ending = ending;
+          ends = ends;
+          first_cause = ap (λ (n : ℕ). first_of n (status_of ending)) r.status_now ∙ status_then r.rounds (status_of ending) ∙ ap (λ (l : List Round). status_from l (status_of ending)) (sym nil);
+          fixed = subst (λ (l : List Request). map told_of (calm (r.rounds ++ [])) ≡ machine_run size at_moment first (take (length (calm (r.rounds ++ []))) l)) asks
+              (fixed_run size at_moment first (r.rounds ++ []) [] run);
+        }
+
+  -- the reader stopped
+  pub stopped_at : (left' : Option (List ℕ)) (source_faults : ℕ) (reader' : Reading) → start.held ≡ [] → start.ended ≡ false → old.source_faults ≤ now.source_faults → (ending : Ending)
+      → Stops Asks now.left left' now.source_faults source_faults reader reader' ending
+      → IsSession Asks Stands tells size at_moment start.budget old (record now { left = left'; source_faults = source_faults }) first marks (first_of status (status_of ending))
+  stopped_at left' source_faults reader' fresh was_open later Ended s =
+      at_read left' reader' s.used [] s.moved source_faults fresh was_open s.nothing_held (ap (λ (b : Bool). Asks s.used b) s.ended ∙ s.none) s.again Ended (r.go_on, refl, s.ended, refl, refl)
+  stopped_at left' source_faults reader' fresh was_open later SourceFault s =
+      at_read left' reader' s.0.used [] s.0.moved source_faults fresh was_open s.0.nothing_held (ap (λ (b : Bool). Asks s.0.used b) s.0.still_open ∙ s.0.none)
+      (λ e. absurd (let c : true ≡ false = sym (s.0.moved.done e).1 ∙ s.0.still_open in cc)) SourceFault
+      (r.go_on, refl, s.0.still_open, refl, refl, omega (arith, s.1, later))
+  stopped_at left' source_faults reader' fresh was_open later OverBudget s =
+      at_read left' reader' s.used (s.extra ∷ []) s.moved source_faults fresh was_open s.nothing_held (ap (λ (b : Bool). Asks s.used b) s.still_open ∙ s.none)
+      (λ e. absurd (let c : true ≡ false = sym (s.moved.done e).1 ∙ s.still_open in cc)) OverBudget
+      (r.go_on, refl, omega (arith, (all_moved left' reader' s.used (s.extra ∷ []) s.moved).budget, s.spent), s.still_open, refl, refl)
+  stopped_at left' source_faults reader' fresh was_open later Closed s = absurd s
+  stopped_at left' source_faults reader' fresh was_open later SinkFault s = absurd s
+  stopped_at left' source_faults reader' fresh was_open later NoMemory s = absurd s
+
+  -- a line that asks nothing was read
+  pub goes_over : (left' : Option (List ℕ)) (source_faults : ℕ) (reader' : Reading) → Takes Asks now.left left' reader reader' []
+      → Ran Asks Stands tells size at_moment old (record now { left = left'; source_faults = source_faults }) start reader' first marks status
+  goes_over left' source_faults reader' t = record {
+    rounds = r.rounds;
+    used = r.used ++ t.used;
+    moved = then_moved old.left now.left left' start reader reader' r.used t.used [] r.moved t.moved;
+    opened = λ e more ended. ap (λ (l : List ℕ). Asks l ended) (append_assoc r.used t.used more) ∙ r.opened t.was_open (t.used ++ more) ended ∙ ap (λ (l : List Request). asked r.rounds ++ l) (t.whole e more ended);
+    whole = λ e. r.opened t.was_open t.used true ∙ ap (λ (l : List Request). asked r.rounds ++ l) (t.last e) ∙ append-nil (asked r.rounds);
+    run = r.run;
+    go_on = r.go_on;
+    stands = r.stands;
+    written = r.written;
+    marks_told = r.marks_told;
+    in_time = r.in_time;
+    counted = r.counted;
+    status_now = r.status_now;
+  }
+
+  -- a request was read, and its round was made
+  module _ (left' : Option (List ℕ)) (source_faults : ℕ) (reader' : Reading) (request : Request) (t : Takes Asks now.left left' reader reader' (request ∷ []))
+      (Stands' : World → Type 0) (written' : Option (List ℕ)) (sink_faults bank_faults moment : ℕ) (marks' : List Mark) (status' : ℕ) (end : Option Ending) (round : Round)
+      (size' : ℕ) (same_size : size' ≡ size)
+      (made : IsRound Stands' tells size' at_moment (world_after first r.rounds) request now.written written' now.sink_faults sink_faults now.bank_faults bank_faults now.moment moment marks marks' status status' end round) where
+    ir : IsRound Stands' tells size at_moment (world_after first r.rounds) request now.written written' now.sink_faults sink_faults now.bank_faults bank_faults now.moment moment marks marks' status status' end round
+    ir = subst (λ (n : ℕ). IsRound Stands' tells n at_moment (world_after first r.rounds) request now.written written' now.sink_faults sink_faults now.bank_faults bank_faults now.moment moment marks marks' status status' end round) same_size made
+
+    abbrev new : Outside
+    new = record { left = left'; source_faults = source_faults; written = written'; sink_faults = sink_faults; bank_faults = bank_faults; moment = moment }
+
+    moved_then : Moved old.left left' start reader' (r.used ++ t.used) []
+    moved_then = then_moved old.left now.left left' start reader reader' r.used t.used [] r.moved t.moved
+
+    asked_then : asked (r.rounds ++ round ∷ []) ≡ asked r.rounds ++ request ∷ []
+    asked_then = asked_more r.rounds round ∙ ap (λ (x : Request). asked r.rounds ++ x ∷ []) ir.same
+
+    opened_then : reader'.ended ≡ false → (more : List ℕ) (ended : Bool) → Asks ((r.used ++ t.used) ++ more) ended ≡ asked (r.rounds ++ round ∷ []) ++ Asks more ended
+    opened_then no_end more ended = ap (λ (l : List ℕ). Asks l ended) (append_assoc r.used t.used more) ∙ r.opened t.was_open (t.used ++ more) ended
+        ∙ ap (λ (l : List Request). asked r.rounds ++ l) (t.whole no_end more ended) ∙ sym (append_assoc (asked r.rounds) (request ∷ []) (Asks more ended))
+        ∙ ap (λ (l : List Request). l ++ Asks more ended) (sym asked_then)
+
+    whole_then : reader'.ended ≡ true → Asks (r.used ++ t.used) true ≡ asked (r.rounds ++ round ∷ [])
+    whole_then e = r.opened t.was_open t.used true ∙ ap (λ (l : List Request). asked r.rounds ++ l) (t.last e) ∙ sym asked_then
+
+    run_then : IsRun size at_moment first (r.rounds ++ round ∷ [])
+    run_then = run_more size at_moment first r.rounds round r.run (subst (λ (x : Request). IsRoundOf size at_moment (world_after first r.rounds) x round.reply round.after) (sym ir.same) ir.turn)
+
+    stands_then : Stands' (world_after first (r.rounds ++ round ∷ []))
+    stands_then = subst Stands' (sym (after_more first r.rounds round)) ir.stands
+
+    in_time_then : IsTrue tells → AreInTime old.moment (r.rounds ++ round ∷ []) moment
+    in_time_then told = in_time_more old.moment now.moment moment r.rounds round (r.in_time told) (ir.in_time told)
+
+    counted_then : AreCounted old.bank_faults (faults_in (r.rounds ++ round ∷ [])) bank_faults
+    counted_then = subst (λ (n : ℕ). AreCounted old.bank_faults n bank_faults) (sym (faults_more r.rounds round)) (counted_more old.bank_faults (faults_in r.rounds) (faults_of round.reply) now.bank_faults bank_faults r.counted ir.counted)
+
+    status_later : (later : ℕ) → first_of status' later ≡ status_from (r.rounds ++ round ∷ []) later
+    status_later later = ap (λ (n : ℕ). first_of n later) (ir.first_cause ∙ ap (λ (n : ℕ). first_of n (cause_of round.reply)) r.status_now ∙ status_then r.rounds (cause_of round.reply)
+        ∙ ap (λ (n : ℕ). status_from r.rounds n) (sym (first_none (cause_of round.reply))) ∙ sym (status_more r.rounds round 0))
+        ∙ status_then (r.rounds ++ round ∷ []) later
+
+    mark_then : mark_of (length marks + 1) round ≡ mark_of (0 + length r.rounds + 1) round
+    mark_then = ap (λ (n : ℕ). mark_of n round) (let e : length marks + 1 ≡ 0 + length r.rounds + 1 = omega (arith, ap length r.marks_told, marks-length 0 r.rounds) in e)
+
+    marks_then : marks' ≡ marks ++ mark_of (length marks + 1) round ∷ [] → marks' ≡ marks_from 0 (r.rounds ++ round ∷ [])
+    marks_then e = e ∙ ap (λ (l : List Mark). l ++ mark_of (length marks + 1) round ∷ []) r.marks_told ∙ ap (λ (x : Mark). marks_from 0 r.rounds ++ x ∷ []) mark_then ∙ sym (marks_more 0 r.rounds round)
+
+    written_then : Appends now.written written' (text_of round.reply) → Appends old.written written' (output (r.rounds ++ round ∷ []))
+    written_then h = subst (λ (l : List ℕ). Appends old.written written' l) (sym (output_more r.rounds round)) (Appends-trans old.written now.written written' (output r.rounds) (text_of round.reply) r.written h)
+
+    pub goes_on : Tells now.written written' now.sink_faults sink_faults marks marks' None round.reply (mark_of (length marks + 1) round) → Ran Asks Stands' tells size at_moment old new start reader' first marks' status'
+    goes_on told = record {
+      rounds = r.rounds ++ round ∷ [];
+      used = r.used ++ t.used;
+      moved = moved_then;
+      opened = opened_then;
+      whole = whole_then;
+      run = run_then;
+      go_on = go_on_more r.rounds round r.go_on told.2;
+      stands = stands_then;
+      written = written_then told.0;
+      marks_told = marks_then told.1;
+      in_time = in_time_then;
+      counted = counted_then;
+      status_now = sym (first_none status') ∙ status_later 0;
+    }
+
+    unasked : List Request
+    unasked = cond reader'.ended [] (Asks reader'.held false)
+
+    asks_round : Asks ((r.used ++ t.used) ++ reader'.held) reader'.ended ≡ asked (r.rounds ++ round ∷ []) ++ unasked
+    unfolding unasked
+    asks_round = elim (cases reader'.ended) [
+      | inl e ↦ ap (λ (l : List ℕ). Asks ((r.used ++ t.used) ++ l) reader'.ended) (t.drained e) ∙ ap (λ (l : List ℕ). Asks l reader'.ended) (append-nil (r.used ++ t.used))
+          ∙ ap (λ (b : Bool). Asks (r.used ++ t.used) b) e ∙ whole_then e ∙ sym (append-nil (asked (r.rounds ++ round ∷ [])))
+          ∙ ap (λ (b : Bool). asked (r.rounds ++ round ∷ []) ++ cond b [] (Asks reader'.held false)) (sym e)
+      | inr e ↦ ap (λ (b : Bool). Asks ((r.used ++ t.used) ++ reader'.held) b) e ∙ opened_then e reader'.held false
+          ∙ ap (λ (b : Bool). asked (r.rounds ++ round ∷ []) ++ cond b [] (Asks reader'.held false)) (sym e)
+    ]
+
+    -- the run ended at a round
+    at_round : start.held ≡ [] → start.ended ≡ false → (told untold : List Round) → told ++ untold ≡ r.rounds ++ round ∷ [] → (cut lost : List ℕ) → cut ++ lost ≡ output untold
+        → Appends old.written written' (output told ++ cut) → marks' ≡ marks_from 0 told → (ending : Ending)
+        → Ends start.budget old new moved_then.more [] reader'.ended told untold cut unasked ending
+        → IsSession Asks Stands' tells size at_moment start.budget old new first marks' (first_of status' (status_of ending))
+    at_round fresh was_open told untold all cut lost cut_off written marks_told ending ends =
+        let same : moved_then.more ≡ (r.used ++ t.used) ++ reader'.held = ap (λ (l : List ℕ). l ++ moved_then.more) (sym fresh) ∙ moved_then.split in
+        let asks : asked (told ++ untold) ++ unasked ≡ Asks moved_then.more reader'.ended =
+        ap (λ (l : List Round). asked l ++ unasked) all ∙ sym (ap (λ (l : List ℕ). Asks l reader'.ended) same ∙ asks_round) in
+        let run : IsRun size at_moment first (told ++ untold) = subst (λ (l : List Round). IsRun size at_moment first l) (sym all) run_then in
+        record {
+          read = moved_then.more;
+          beyond = [];
+          taken = moved_then.took;
+          within = omega (arith, moved_then.budget);
+          met_end = reader'.ended;
+          end = moved_then.end (λ h. absurd (let c : true ≡ false = sym h ∙ was_open in cc));
+          told = told;
+          untold = untold;
+          unasked = unasked;
+          asks = asks;
+          run = run;
+          stands = subst (λ (l : List Round). Stands' (world_after first l)) (sym all) stands_then;
+          cut = cut;
+          lost = lost;
+          cut_off = cut_off;
+          written = written;
+          marks_told = marks_told;
+          in_time = λ t. subst (λ (l : List Round). AreInTime old.moment l moment) (sym all) (in_time_then t);
+          counted = subst (λ (l : List Round). AreCounted old.bank_faults (faults_in l) bank_faults) (sym all) counted_then;
+          ending = ending;
+          ends = ends;
+          first_cause = status_later (status_of ending) ∙ ap (λ (l : List Round). status_from l (status_of ending)) (sym all);
+          fixed = subst (λ (l : List Request). map told_of (calm (told ++ untold)) ≡ machine_run size at_moment first (take (length (calm (told ++ untold))) l)) asks (fixed_run size at_moment first (told ++ untold) unasked run);
+        }
+
+    pub ends_at : start.held ≡ [] → start.ended ≡ false → old.sink_faults ≤ now.sink_faults → (ending : Ending)
+        → Tells now.written written' now.sink_faults sink_faults marks marks' (Some ending) round.reply (mark_of (length marks + 1) round)
+        → IsSession Asks Stands' tells size at_moment start.budget old new first marks' (first_of status' (status_of ending))
+    ends_at fresh was_open later Closed told =
+        at_round fresh was_open (r.rounds ++ round ∷ []) [] (append-nil (r.rounds ++ round ∷ [])) [] [] refl
+        (subst (λ (l : List ℕ). Appends old.written written' l) (sym (append-nil (output (r.rounds ++ round ∷ [])))) (written_then told.0)) (marks_then told.1) Closed
+        ((r.rounds, round, refl, r.go_on, told.2), refl, refl)
+    ends_at fresh was_open later SinkFault told =
+        at_round fresh was_open r.rounds (round ∷ []) refl told.0.0 told.0.1 (sym told.0.2 ∙ sym (append-nil (text_of round.reply)))
+        (Appends-trans old.written now.written written' (output r.rounds) told.0.0 r.written told.0.3) (told.1 ∙ r.marks_told) SinkFault
+        (r.go_on, refl, refl, omega (arith, told.2, later))
+    ends_at fresh was_open later NoMemory told =
+        at_round fresh was_open r.rounds (round ∷ []) refl [] (output (round ∷ [])) refl
+        (Appends-trans old.written now.written written' (output r.rounds) [] r.written told.0) (told.1 ∙ r.marks_told) NoMemory
+        (r.go_on, refl, refl, refl)
+    ends_at fresh was_open later Ended told = absurd told
+    ends_at fresh was_open later SourceFault told = absurd told
+    ends_at fresh was_open later OverBudget told = absurd told
+
+pub begun : (Asks : Items Request) (Stands : World → Type 0) (tells : Bool) (size at_moment : ℕ) (now : Outside) (start : Reading) (first : World) (marks : List Mark) (status : ℕ)
+    → marks ≡ [] → status ≡ 0 → start.ended ≡ false → Stands first → Ran Asks Stands tells size at_moment now now start start first marks status
+begun Asks Stands tells size at_moment now start first marks status none_marked no_cause was_open stands = record {
+  rounds = [];
+  used = [];
+  moved = stays now.left start;
+  opened = λ _ more ended. refl;
+  whole = λ e. absurd (let c : true ≡ false = sym e ∙ was_open in cc);
+  run = tt;
+  go_on = tt;
+  stands = stands;
+  written = Appends-nil now.written;
+  marks_told = none_marked;
+  in_time = λ t. omega arith;
+  counted = omega arith;
+  status_now = no_cause;
+}

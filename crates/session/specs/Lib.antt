@@ -1,0 +1,9 @@
+pub mod Asking
+pub mod Rounds
+pub mod Machine
+pub mod Session
+pub mod Hearing
+pub mod OneRound
+pub mod Refusing
+pub mod Ran
+pub mod Outcomes

@@ -1,0 +1,91 @@
+-- A session: from bytes to bytes.
+use Rattle.std.specs.Prelude.{◌≡◌, ◌≤◌, ℕ, List, [], ◌∷◌, ◌++◌, length, take, map, Option, Bool, true, false, IsTrue}
+use Rattle.std.specs.Io.KnownBytes.{Consumes, Appends, IsAtEnd}
+use Rattle.site_text.specs.Causes.{Rose, AreCounted}
+use Rattle.bank.specs.View.{View}
+use Rattle.input.specs.Reading.{Items}
+use Rattle.site_history.specs.Worlds.{World}
+use Rattle.session.specs.Asking.{Request}
+use Rattle.session.specs.Rounds.{Round, IsRun, world_after, asked, output, AreInTime, marks_from, status_from, faults_in, GoOn, ends_run, calm}
+use Rattle.session.specs.Machine.{told_of, machine_run}
+use Rattle.session.specs.declared.kept.Mark.{Mark}
+use Rattle.session.specs.declared.kept.Ending.{Ending}
+use Rattle.session.specs.declared.kept.Ending.TheVariants.{Ended, Closed, SourceFault, SinkFault, OverBudget, NoMemory}
+
+-- what is told of the objects outside
+pub record Outside : Type 0 where
+  pub left : Option (List ℕ)
+  pub source_faults : ℕ
+  pub written : Option (List ℕ)
+  pub sink_faults : ℕ
+  pub bank_faults : ℕ
+  pub moment : ℕ
+
+-- what a source, a sink and a store tell
+abbrev pub seen : {S K B : Type 0} → (S → Option (List ℕ)) → (S → ℕ) → (K → Option (List ℕ)) → (K → ℕ) → (B → ℕ) → (B → View) → S → K → B → Outside
+seen left source_faults written sink_faults bank_faults view source sink bank = record {
+  left = left source;
+  source_faults = source_faults source;
+  written = written sink;
+  sink_faults = sink_faults sink;
+  bank_faults = bank_faults bank;
+  moment = (view bank).moment;
+}
+
+abbrev pub status_of : Ending → ℕ
+status_of Ended = 0
+status_of Closed = 0
+status_of SourceFault = 4
+status_of SinkFault = 5
+status_of OverBudget = 7
+status_of NoMemory = 9
+
+-- How a run ended: none of the answers but the last ends a run, and where the last one does, that ended it.
+-- beyond: the bytes taken beyond the budget; met_end: whether the input's end was met; told: the rounds whose answer was
+-- written whole; untold: those whose answer was not; cut: what was written of it; unasked: the requests that have no round
+abbrev pub Ends : ℕ → Outside → Outside → List ℕ → List ℕ → Bool → List Round → List Round → List ℕ → List Request → Ending → Type 0
+Ends budget old new read beyond met_end told untold cut unasked Ended =
+    GoOn told × (beyond ≡ []) × (met_end ≡ true) × (unasked ≡ []) × (untold ≡ [])
+Ends budget old new read beyond met_end told untold cut unasked Closed =
+    ((front : List Round) × (last : Round) × (told ≡ front ++ last ∷ []) × GoOn front × (ends_run last.reply ≡ true)) × (beyond ≡ []) × (untold ≡ [])
+Ends budget old new read beyond met_end told untold cut unasked SourceFault =
+    GoOn told × (beyond ≡ []) × (met_end ≡ false) × (unasked ≡ []) × (untold ≡ []) × Rose old.source_faults new.source_faults
+Ends budget old new read beyond met_end told untold cut unasked OverBudget =
+    GoOn told × (length beyond ≡ 1) × (length read ≡ budget) × (met_end ≡ false) × (unasked ≡ []) × (untold ≡ [])
+Ends budget old new read beyond met_end told untold cut unasked SinkFault =
+    GoOn told × (beyond ≡ []) × (length untold ≡ 1) × Rose old.sink_faults new.sink_faults
+Ends budget old new read beyond met_end told untold cut unasked NoMemory =
+    GoOn told × (beyond ≡ []) × (length untold ≡ 1) × (cut ≡ [])
+
+-- A session from a world, over a journal of this size: what was read, asked, answered and written, and what ended it.
+-- `Asks` is what a text asks, `Stands` says where the engine stands, and `tells` whether the store tells its content.
+pub record IsSession (Asks : Items Request) (Stands : World → Type 0) (tells : Bool) (size now budget : ℕ) (old new : Outside) (first : World) (marks : List Mark) (status : ℕ) : Type 0 where
+  -- the bytes taken from the source, within the budget and beyond it
+  pub read : List ℕ
+  pub beyond : List ℕ
+  pub taken : Consumes old.left new.left (read ++ beyond)
+  pub within : length read ≤ budget
+  pub met_end : Bool
+  pub end : met_end ≡ true → IsAtEnd new.left
+  -- the rounds: those whose answers were written whole, and at most one more
+  pub told : List Round
+  pub untold : List Round
+  pub unasked : List Request
+  pub asks : asked (told ++ untold) ++ unasked ≡ Asks read met_end
+  pub run : IsRun size now first (told ++ untold)
+  pub stands : Stands (world_after first (told ++ untold))
+  -- what was written
+  pub cut : List ℕ
+  pub lost : List ℕ
+  pub cut_off : cut ++ lost ≡ output untold
+  pub written : Appends old.written new.written (output told ++ cut)
+  pub marks_told : marks ≡ marks_from 0 told
+  pub in_time : IsTrue tells → AreInTime old.moment (told ++ untold) new.moment
+  -- what was counted
+  pub counted : AreCounted old.bank_faults (faults_in (told ++ untold)) new.bank_faults
+  -- the status
+  pub ending : Ending
+  pub ends : Ends budget old new read beyond met_end told untold cut unasked ending
+  pub first_cause : status ≡ status_from (told ++ untold) (status_of ending)
+  -- up to the first fault or want of memory all answers and worlds are the machine's, for the bytes that were read
+  pub fixed : map told_of (calm (told ++ untold)) ≡ machine_run size now first (take (length (calm (told ++ untold))) (Asks read met_end))

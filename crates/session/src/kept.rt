@@ -1,0 +1,39 @@
+//! What a session keeps.
+
+use engine::Engine;
+
+/// One for each answer that was written whole.
+#[derive(Clone, Copy, Debug, PartialEq, Eq)]
+pub struct Mark {
+    /// How many answers were written, with this one.
+    pub answered: u64,
+    /// How many steps of the site were acknowledged.
+    pub steps: u64,
+    /// The store's moment then.
+    pub moment: u64,
+}
+
+/// A site, the marks of its answers, and the first cause of a status other than 0.
+#[derive(Drop)]
+pub struct Session<B, P> {
+    pub engine: Engine<B, P>,
+    pub marks: Vec<Mark>,
+    pub status: u8,
+}
+
+/// What ended a run.
+#[derive(Clone, Copy, Debug, PartialEq, Eq)]
+pub enum Ending {
+    /// The input's end was met.
+    Ended,
+    /// An answer ends a run.
+    Closed,
+    /// The source failed.
+    SourceFault,
+    /// The sink failed.
+    SinkFault,
+    /// A byte was taken beyond the budget.
+    OverBudget,
+    /// An answer found no memory for its text or its mark.
+    NoMemory,
+}

@@ -1,0 +1,166 @@
+//! One round: what was asked is answered, the answer is written, and a mark is kept.
+
+ghost use Rattle.std.specs.Prelude.{◌≡◌, ◌≤◌, ◌+◌, ◌^◌, [], ◌∷◌, ◌++◌, false, length, IsTrue, None, Option};
+ghost use Rattle.site_text.specs.Causes.{AreCounted};
+ghost use Rattle.site_history.specs.Worlds.{World};
+ghost use Rattle.engine.specs.StandsFor.{StandsFor};
+ghost use Rattle.session.specs.Asking.{Request, reply_to};
+ghost use Rattle.session.specs.Hearing.{IsReadAs};
+ghost use Rattle.session.specs.Rounds.{Round, IsRoundOf, first_of, cause_of, faults_of, ends_run};
+ghost use Rattle.session.specs.OneRound.{IsRound, Tells};
+
+use crate::kept::{Ending, Mark, Session};
+use bank::Bank;
+use desk::write_reply;
+use engine::Engine;
+use outside::{Sink, write_all};
+use records::{Asked, LineRefusal, Reply};
+use std::alloc::Global;
+
+/// The status that an answer is a cause of, or 0.
+fn cause(reply: &Reply) -> u8
+    ensures { result ≡ cause_of reply.now }
+{
+    match reply {
+        Reply::BankFault => 3,
+        Reply::FolderFault => 3,
+        Reply::BadJournal(_) => 2,
+        Reply::NoMemory => 9,
+        _ => 0,
+    }
+}
+
+/// Whether an answer ends the run.
+fn is_last(reply: &Reply) -> bool
+    ensures { result ≡ ends_run reply.now }
+{
+    match reply {
+        Reply::BankFault => true,
+        _ => false,
+    }
+}
+
+/// The first of two causes.
+pub fn first_cause(before: u8, now: u8) -> u8
+    ensures { result ≡ first_of before now }
+{
+    if before == 0 { now } else { before }
+}
+
+/// The answer to a line that is no command, or whose reading found no memory.
+fn refused(refusal: LineRefusal) -> Reply
+    ensures { result ≡ reply_to refusal }
+{
+    match refusal {
+        LineRefusal::NoMemory => Reply::NoMemory,
+        _ => Reply::Line(refusal),
+    }
+}
+
+/// Answers what was asked. Each event has the moment 0.
+fn respond<B: Bank, P: Drop>(engine: &mut Engine<B, P>, asked: Result<Asked, LineRefusal>) -> Reply
+    requires { engine.old.due ≡ false }
+    ensures round { (w : World) → StandsFor engine.old w → (request : Request) → IsReadAs asked request
+        → (w' : World) × IsRoundOf engine.old.journal.size 0 w request result w' × StandsFor engine.new w' }
+    ensures counted { AreCounted (B.faults engine.old.bank) (faults_of result) (B.faults engine.new.bank) }
+    ensures later { B.faults engine.old.bank ≤ B.faults engine.new.bank }
+    ensures ready { ends_run result ≡ false → engine.new.due ≡ false }
+    ensures size { engine.new.journal.size ≡ engine.old.journal.size }
+    ensures patterns { engine.new.patterns ≡ engine.old.patterns }
+    ensures moment { IsTrue B.tells → (B.view engine.old.bank).moment ≤ (B.view engine.new.bank).moment }
+{
+    match asked {
+        Ok(Asked::One(event)) => engine.event(&event, 0),
+        Ok(_) => Reply::Line(LineRefusal::NotACommand),
+        Err(refusal) => refused(refusal),
+    }
+}
+
+/// Answers what was asked, and keeps the first cause of a status.
+fn answer<B: Bank, P: Drop>(session: &mut Session<B, P>, asked: Result<Asked, LineRefusal>) -> Reply
+    requires { session.old.engine.due ≡ false }
+    ensures round { (w : World) → StandsFor session.old.engine w → (request : Request) → IsReadAs asked request
+        → (w' : World) × IsRoundOf session.old.engine.journal.size 0 w request result w' × StandsFor session.new.engine w' }
+    ensures counted { AreCounted (B.faults session.old.engine.bank) (faults_of result) (B.faults session.new.engine.bank) }
+    ensures later { B.faults session.old.engine.bank ≤ B.faults session.new.engine.bank }
+    ensures ready { ends_run result ≡ false → session.new.engine.due ≡ false }
+    ensures size { session.new.engine.journal.size ≡ session.old.engine.journal.size }
+    ensures patterns { session.new.engine.patterns ≡ session.old.engine.patterns }
+    ensures moment { IsTrue B.tells → (B.view session.old.engine.bank).moment ≤ (B.view session.new.engine.bank).moment }
+    ensures status { session.new.status ≡ first_of session.old.status (cause_of result) }
+    ensures marks { session.new.marks ≡ session.old.marks }
+{
+    let reply = respond(&mut session.engine, asked);
+    session.status = first_cause(session.status, cause(&reply));
+    reply
+}
+
+/// The mark of the next answer.
+fn next_mark<B: Bank, P: Drop>(session: &Session<B, P>) -> Mark
+    ensures answered { result.answered ≡ length session.now.marks.items + 1 }
+    ensures steps { (w : World) → StandsFor session.now.engine w → result.steps ≡ length w.history }
+    ensures moment { IsTrue B.tells → result.moment ≡ (B.view session.now.engine.bank).moment }
+{
+    Mark {
+        answered: session.marks.len() as u64 + 1,
+        steps: session.engine.steps(),
+        moment: session.engine.bank().moment(),
+    }
+}
+
+/// Writes an answer and keeps its mark. Some ends the run.
+fn tell<O: Sink>(
+    alloc: Global,
+    marks: &mut Vec<Mark>,
+    reply: Reply,
+    mark: Mark,
+    output: &mut O,
+) -> Option<Ending>
+    ensures tells { Tells (O.written output.old) (O.written output.new) (O.faults output.old) (O.faults output.new)
+        marks.old.items marks.new.items result reply mark }
+    ensures later { O.faults output.old ≤ O.faults output.new }
+    ensures beside { O.beside output.new ≡ O.beside output.old }
+{
+    let Ok(text) = write_reply(alloc, &reply) else {
+        return Some(Ending::NoMemory);
+    };
+    if marks.reserve(1).is_err() {
+        return Some(Ending::NoMemory);
+    }
+    if write_all(output, text.as_slice()).is_err() {
+        return Some(Ending::SinkFault);
+    }
+    if marks.push(mark).is_err() {
+        unreachable!();
+    }
+    if is_last(&reply) {
+        return Some(Ending::Closed);
+    }
+    None
+}
+
+/// One round: what was asked is answered, the answer is written, and a mark is kept. Some ends the run.
+pub fn one_round<B: Bank, P: Drop, O: Sink>(
+    alloc: Global,
+    session: &mut Session<B, P>,
+    asked: Result<Asked, LineRefusal>,
+    output: &mut O,
+) -> Option<Ending>
+    requires { session.old.engine.due ≡ false }
+    ensures round { (w : World) → StandsFor session.old.engine w → (request : Request) → IsReadAs asked request → (round : Round)
+        × IsRound (StandsFor session.new.engine) B.tells session.old.engine.journal.size 0 w request
+        (O.written output.old) (O.written output.new) (O.faults output.old) (O.faults output.new)
+        (B.faults session.old.engine.bank) (B.faults session.new.engine.bank)
+        (B.view session.old.engine.bank).moment (B.view session.new.engine.bank).moment
+        session.old.marks.items session.new.marks.items session.old.status session.new.status result round }
+    ensures ready { result ≡ None → session.new.engine.due ≡ false }
+    ensures size { session.new.engine.journal.size ≡ session.old.engine.journal.size }
+    ensures patterns { session.new.engine.patterns ≡ session.old.engine.patterns }
+    ensures later { O.faults output.old ≤ O.faults output.new }
+    ensures bank_later { B.faults session.old.engine.bank ≤ B.faults session.new.engine.bank }
+    ensures beside { O.beside output.new ≡ O.beside output.old }
+{
+    let reply = answer(session, asked);
+    let mark = next_mark(session);
+    tell(alloc, &mut session.marks, reply, mark, output)
+}
