@@ -1,14 +1,13 @@
 -- The laws of texts, lists, and forms that are put together.
-use Rattle.std.proofs.Common.{◌≡◌, ℕ, zero, suc, ◌+◌, ◌-◌, ◌*◌, ◌^◌, ◌<◌, ◌≤◌, ◌⊎◌, Bool, true, false, cond, ltb, List, [], ◌∷◌, ◌++◌, length, take, drop, Result, Ok, Err, refl, sym, ap, subst, ◌∙◌, append_assoc, arith, inl, inr}
+use Rattle.std.proofs.Common.{◌≡◌, ℕ, zero, suc, ◌-◌, ◌^◌, ◌<◌, ◌≤◌, false, cond, ltb, List, [], ◌∷◌, ◌++◌, length, take, drop, Ok, Err, refl, sym, ap, subst, ◌∙◌, append_assoc, arith, inl, inr}
 use Rattle.std.specs.List.{flat_map, AllByRecursion}
 use Rattle.std.specs.Int.{w32}
 use Rattle.std.proofs.lemmas.Bool.{ltb-true, ltb-false, lt-ltb, le-ltb}
 use Rattle.std.proofs.lemmas.List.{take_at, drop_at, take-append-drop, length-append, length-take}
-use Rattle.std.proofs.lemmas.List.Concat.{flat_map-cons}
 use Rattle.records.specs.declared.refusal.StepRefusal.{StepRefusal}
-use Rattle.records.specs.declared.refusal.StepRefusal.TheVariants.{Truncated, BadKind, BadField, NoMemory}
-use Rattle.records.specs.Forms.{Form, Begins, number_bytes, ◌>>=◌, IsWithin, number_within, number_of, size, text_at, text, TextRefuses, ◌&◌, made, items_at, ItemsRefuse, list_at, list_of, ListRefuses, count}
-use Rattle.records.proofs.Laws.{IsBytes, IsBytes-drop, Lawful, wide32, number_lawful, ok_is, bind_ok, bind_err, passed_ok, passed_err, chosen_ok, chosen_err, wrong, err_is, ok_or_err}
+use Rattle.records.specs.declared.refusal.StepRefusal.TheVariants.{Truncated}
+use Rattle.records.specs.Forms.{Form, Begins, number_bytes, ◌>>=◌, IsWithin, size, text_at, text, TextRefuses, ◌&◌, made, items_at, ItemsRefuse, list_at, list_of, ListRefuses, count}
+use Rattle.records.proofs.Laws.{IsBytes, IsBytes-drop, Lawful, wide32, number_lawful, ok_is, bind_ok, bind_err, passed_ok, passed_err, ok_or_err}
 
 -- ---- one form after another
 

@@ -1,17 +1,16 @@
 -- The ranges of the forms are the ranges kind by kind.
-use Rattle.std.proofs.Common.{◌≡◌, ℕ, ◌+◌, ◌-◌, ◌^◌, ◌≤◌, ◌<◌, List, [], ◌∷◌, length, arith}
+use Rattle.std.proofs.Common.{ℕ, ◌-◌, ◌^◌, ◌<◌, List, [], ◌∷◌, length, arith}
 use Rattle.std.specs.List.{AllByRecursion}
 use Rattle.records.specs.declared.file.Run.{Run}
 use Rattle.records.specs.declared.file.Section.{Section}
-use Rattle.records.specs.declared.file.SiteTexts.{SiteTexts}
 use Rattle.records.specs.declared.step.Member.{Member}
 use Rattle.records.specs.declared.step.VolumeEnd.{VolumeEnd}
 use Rattle.records.specs.declared.step.Step.{Step}
 use Rattle.records.specs.declared.step.StepKind.{StepKind}
 use Rattle.records.specs.declared.step.StepKind.TheVariants.{Configured, Put, Accessed, Removed, Renamed, Attributed, CopyMade, Rearchive, Unarchived, Released, Wanted, Staged, StageFailed, Damaged, Recycling, Relabelled, Flagged}
 use Rattle.records.specs.Forms.{IsWithin}
-use Rattle.records.specs.Ranges.{IsMoment, IsInode, IsCopy, IsIndex, IsNumber, IsText, IsRun, IsSection, IsMember, IsEnd, IsListOf, Ranges}
-use Rattle.records.specs.Written.{row, IsRowInRange, InRange, run, runs, section, member, members, volume_end, ends, inodes, inode, configured, put, one_file, renamed, attributed, copy_made, one_copy, released, wanted, staged, damaged, recycling, relabelled, flagged}
+use Rattle.records.specs.Ranges.{IsMoment, IsRun, IsSection, IsMember, IsEnd, IsListOf, Ranges}
+use Rattle.records.specs.Written.{row, IsRowInRange, InRange, run, runs, section, member, members, volume_end, ends, inodes, configured, put, one_file, renamed, attributed, copy_made, one_copy, released, wanted, staged, damaged, recycling, relabelled, flagged}
 
 all_then : {X : Type 0} (P Q : X → Type 0) → ((x : X) → P x → Q x) → (xs : List X) → AllByRecursion P xs → AllByRecursion Q xs
 all_then P Q f [] h = tt

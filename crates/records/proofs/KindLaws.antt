@@ -1,5 +1,5 @@
 -- The laws of the fields of each kind of step.
-use Rattle.std.proofs.Common.{◌≡◌, ℕ, zero, suc, ◌-◌, ◌^◌, ◌<◌, Bool, true, false, refl, arith, List}
+use Rattle.std.proofs.Common.{◌≡◌, ℕ, zero, suc, ◌-◌, ◌^◌, ◌<◌, Bool, true, false, refl, arith}
 use Rattle.std.specs.Int.{w32, w64}
 use Rattle.records.specs.declared.file.ReleaseKind.{ReleaseKind}
 use Rattle.records.specs.declared.file.ReleaseKind.TheVariants as release
@@ -7,7 +7,7 @@ use Rattle.records.specs.declared.file.StageKind.{StageKind}
 use Rattle.records.specs.declared.file.StageKind.TheVariants as stage
 use Rattle.records.specs.declared.file.Flag.{Flag}
 use Rattle.records.specs.declared.file.Flag.TheVariants as flags
-use Rattle.records.specs.Written.{number, moment, inode, copy, index, release_code, release_of, release_kind, stage_code, stage_of, stage_kind, flag_code, flag_of, flag, truth_code, truth_of, truth, block, run_of, run, runs, section_of, section, sections, member_of, member, members, end_of, volume_end, ends, inodes, texts_of, texts, configured, put, one_file, renamed, attributed, copy_made, one_copy, released, wanted, staged, damaged, recycling, relabelled, flagged}
+use Rattle.records.specs.Written.{number, moment, inode, copy, index, release_code, release_of, release_kind, stage_code, stage_of, stage_kind, flag_code, flag_of, flag, truth_code, truth_of, truth, block, run_of, runs, section_of, section, member_of, member, members, end_of, ends, texts_of, configured, put, one_file, renamed, attributed, copy_made, one_copy, released, wanted, staged, damaged, recycling, relabelled, flagged}
 use Rattle.records.proofs.Laws.{Lawful, wide32, wide64, number_lawful, choice_lawful}
 use Rattle.records.proofs.Combined.{both_lawful, made_lawful, text_lawful, list_lawful}
 

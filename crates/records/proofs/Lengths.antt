@@ -1,12 +1,11 @@
 -- How long the written form of a step is.
-use Rattle.std.proofs.Common.{◌≡◌, ℕ, suc, ◌+◌, ◌*◌, ◌≤◌, ◌<◌, ◌^◌, List, [], ◌∷◌, ◌++◌, length, refl, sym, ap, ◌∙◌, add_comm, arith}
-use Rattle.std.specs.List.{flat_map, sum_by}
+use Rattle.std.proofs.Common.{◌≡◌, ℕ, suc, ◌+◌, ◌*◌, ◌<◌, ◌≤◌, List, [], ◌∷◌, ◌++◌, length, refl, sym, ap, ◌∙◌, add_comm, arith}
+use Rattle.std.specs.List.{flat_map, sum_by, AllByRecursion}
 use Rattle.std.specs.Int.{w32, w64}
 use Rattle.std.proofs.lemmas.List.{length-append}
 use Rattle.std.proofs.lemmas.List.Sums.{sum_by-cons}
 use Rattle.std.proofs.Math.Nat.{mul-suc}
 use Rattle.records.specs.declared.file.Run.{Run}
-use Rattle.records.specs.declared.file.SiteTexts.{SiteTexts}
 use Rattle.records.specs.declared.file.Section.{Section}
 use Rattle.records.specs.declared.step.Member.{Member}
 use Rattle.records.specs.declared.step.VolumeEnd.{VolumeEnd}
@@ -14,8 +13,8 @@ use Rattle.records.specs.declared.step.Step.{Step}
 use Rattle.records.specs.declared.step.StepKind.{StepKind}
 use Rattle.records.specs.declared.step.StepKind.TheVariants.{Configured, Put, Accessed, Removed, Renamed, Attributed, CopyMade, Rearchive, Unarchived, Released, Wanted, Staged, StageFailed, Damaged, Recycling, Relabelled, Flagged}
 use Rattle.records.specs.Forms.{number_bytes, text}
-use Rattle.records.specs.Lengths.{text_length, texts_length, items_length, member_length, fields_length, step_length}
-use Rattle.records.specs.Written.{row, moment, kind_written, written, run, runs, section, sections, member, members, volume_end, ends, inodes, inode, release_code, stage_code, flag_code, truth_code, configured, put, one_file, renamed, attributed, copy_made, one_copy, released, wanted, staged, damaged, recycling, relabelled, flagged}
+use Rattle.records.specs.Lengths.{text_length, items_length, member_length, fields_length, step_length, IsWithinLimits}
+use Rattle.records.specs.Written.{row, moment, kind_written, written, run, runs, section, member, members, volume_end, ends, inodes, inode, release_code, stage_code, flag_code, truth_code, configured, put, one_file, renamed, attributed, copy_made, one_copy, released, wanted, staged, damaged, recycling, relabelled, flagged}
 
 pub length_8 : (n : ℕ) → length (number_bytes w64 n) ≡ 8
 unfolding number_bytes
@@ -88,3 +87,30 @@ length-written s = ap suc (both (moment.written s.moment) (kind_written (row s.k
 -- no written form is empty
 pub written_some : (s : Step) → 0 < length (written s)
 written_some s = omega (arith, length-written s)
+
+member_lengths : (ms : List Member) → AllByRecursion (λ m. length m.sections ≤ 8) ms → sum_by member_length ms ≤ 276 * length ms
+member_lengths [] h = omega arith
+member_lengths (m ∷ ms) h = omega (arith, sum_by-cons member_length m ms, h.0, member_lengths ms h.1)
+
+fields_short : (s : StepKind) → IsWithinLimits s → fields_length s ≤ 1000000
+fields_short (Configured t) h = omega arith
+fields_short (Put i path owner group n runs) h = omega arith
+fields_short (Accessed i) h = omega arith
+fields_short (Removed i) h = omega arith
+fields_short (Renamed i path) h = omega arith
+fields_short (Attributed i release partial stage) h = omega arith
+fields_short (CopyMade set copy key members ends) h = omega (arith, h.0, h.1, h.3, member_lengths members h.2)
+fields_short (Rearchive i copy) h = omega arith
+fields_short (Unarchived i copy) h = omega arith
+fields_short (Released i cached) h = omega arith
+fields_short (Wanted inodes) h = omega arith
+fields_short (Staged i copy runs) h = omega arith
+fields_short (StageFailed i) h = omega arith
+fields_short (Damaged i copy on) h = omega arith
+fields_short (Recycling volume) h = omega arith
+fields_short (Relabelled volume label) h = omega arith
+fields_short (Flagged volume flag on) h = omega arith
+
+-- within the limits of a site a written form has 1 to 1,048,576 bytes
+pub written_short : (s : Step) → IsWithinLimits s.kind → length (written s) ≤ 1048576
+written_short s h = omega (arith, length-written s, fields_short s.kind h)

@@ -1,18 +1,17 @@
 -- A step is read exactly where it is written, and refused exactly where the first field without a reading says.
-use Rattle.std.proofs.Common.{◌≡◌, ℕ, zero, suc, ◌+◌, ◌≤◌, ◌<◌, ◌⊎◌, Bool, true, false, cond, eqb, List, [], ◌∷◌, ◌++◌, length, Result, Ok, Err, refl, sym, ap, subst, ◌∙◌, append_assoc, arith, inl, inr}
+use Rattle.std.proofs.Common.{◌≡◌, ℕ, ◌≤◌, ◌⊎◌, Bool, true, false, cond, eqb, List, [], ◌++◌, length, Result, Ok, Err, refl, sym, subst, arith, inl, inr}
 use Rattle.std.proofs.lemmas.Bool.{eqb-true, eqb-false, cases_eq}
-use Rattle.records.specs.declared.file.Run.{Run}
 use Rattle.records.specs.declared.file.ReleaseKind.TheVariants as release
 use Rattle.records.specs.declared.file.StageKind.TheVariants as stage
 use Rattle.records.specs.declared.file.Flag.TheVariants as flags
 use Rattle.records.specs.declared.step.StepKind.{StepKind}
 use Rattle.records.specs.declared.step.StepKind.TheVariants.{Configured, Put, Accessed, Removed, Renamed, Attributed, CopyMade, Rearchive, Unarchived, Released, Wanted, Staged, StageFailed, Damaged, Recycling, Relabelled, Flagged}
 use Rattle.records.specs.declared.refusal.StepRefusal.{StepRefusal}
-use Rattle.records.specs.declared.refusal.StepRefusal.TheVariants.{Truncated, BadKind, BadField, NoMemory}
-use Rattle.records.specs.Forms.{Form, Begins, ◌>>=◌}
+use Rattle.records.specs.declared.refusal.StepRefusal.TheVariants.{BadKind}
+use Rattle.records.specs.Forms.{Form, Begins}
 use Rattle.records.specs.Written.{row, kind_written, IsRowInRange, configured, put, one_file, renamed, attributed, copy_made, one_copy, released, wanted, staged, damaged, recycling, relabelled, flagged}
 use Rattle.records.specs.Reading.{read_as, make_put, make_renamed, make_attributed, make_copy, make_rearchive, make_unarchived, make_released, make_staged, make_damaged, make_relabelled, make_flagged, kind_at}
-use Rattle.records.proofs.Laws.{IsBytes, Lawful, bind_ok, bind_err, ok_is, ok_or_err, fine, wrong}
+use Rattle.records.proofs.Laws.{IsBytes, Lawful, bind_ok, bind_err, ok_is, ok_or_err}
 use Rattle.records.proofs.KindLaws.{configured_lawful, put_lawful, one_file_lawful, renamed_lawful, attributed_lawful, copy_made_lawful, one_copy_lawful, released_lawful, wanted_lawful, staged_lawful, damaged_lawful, recycling_lawful, relabelled_lawful, flagged_lawful}
 
 -- which way a test went

@@ -1,18 +1,18 @@
 -- A step is read exactly where it is written, and refused exactly where the first field without a reading says.
-use Rattle.std.proofs.Common.{◌≡◌, ℕ, suc, ◌+◌, ◌≤◌, ◌<◌, ◌⊎◌, Bool, true, false, cond, eqb, List, [], ◌∷◌, ◌++◌, length, Result, Ok, Err, refl, sym, ap, subst, ◌∙◌, append_assoc, arith, inl, inr}
+use Rattle.std.proofs.Common.{◌≡◌, ℕ, suc, ◌≤◌, Bool, true, false, cond, eqb, List, [], ◌∷◌, ◌++◌, length, Result, Ok, Err, refl, sym, ap, subst, ◌∙◌, append_assoc, arith, inl, inr}
 use Rattle.std.specs.Prelude.{IfOk, IfErr}
-use Rattle.std.proofs.lemmas.Bool.{eqb-true, eqb-false, ne_eqb, cases_Bool}
+use Rattle.std.proofs.lemmas.Bool.{eqb-true, ne_eqb}
 use Rattle.std.proofs.lemmas.List.{append-nil, nil_from_length}
 use Rattle.records.specs.declared.step.Step.{Step}
 use Rattle.records.specs.declared.step.StepKind.{StepKind}
 use Rattle.records.specs.declared.refusal.StepRefusal.{StepRefusal}
 use Rattle.records.specs.declared.refusal.StepRefusal.TheVariants.{Truncated, BadKind, BadField, NoMemory}
-use Rattle.records.specs.Forms.{Form, Begins, ◌>>=◌, ◌&◌, is_within}
+use Rattle.records.specs.Forms.{Begins, ◌>>=◌, ◌&◌, is_within}
 use Rattle.records.specs.Written.{row, moment, kind_written, IsRowInRange, written, InRange, IsRefused, empty, no_kind, bad_field, follows}
 use Rattle.records.specs.Reading.{Fails, Gives, kind_at, fields_at, step_at}
-use Rattle.records.proofs.Laws.{IsBytes, IsBytes-rest, Lawful, bind_ok, bind_err, chosen_ok, chosen_err, ok_is, err_is, ok_or_err, fine, wrong, within_true, within_false, true_within, false_within}
+use Rattle.records.proofs.Laws.{IsBytes, IsBytes-rest, bind_ok, bind_err, chosen_ok, ok_is, err_is, ok_or_err, fine, wrong, within_true, within_false, true_within, false_within}
 use Rattle.records.proofs.KindLaws.{moment_lawful}
-use Rattle.records.proofs.Rows.{row_lawful, IsOfKind, kind_takes, kind_fails, kind_again, kind_refuses, kind_within, kind_there}
+use Rattle.records.proofs.Rows.{IsOfKind, kind_takes, kind_fails, kind_again, kind_refuses, kind_within, kind_there}
 
 abbrev step_of : ℕ → StepKind × List ℕ → Result Step StepRefusal
 step_of m k = cond (eqb (length k.1) 0) (Ok (record { moment = m; kind = k.0 })) (Err BadField)

@@ -1,9 +1,9 @@
 -- Forms of fields: what a field may hold, the bytes it is written in, and where bytes are no such field.
-use Rattle.std.specs.Prelude.{◌≡◌, ℕ, zero, suc, ◌+◌, ◌-◌, ◌*◌, ◌^◌, ◌<◌, ◌≤◌, ◌⊎◌, Bool, ◌&&◌, List, [], ◌∷◌, ◌++◌, length, take, drop, Result, Ok, Err, nat_lt, nat_le, if◌then◌else◌}
+use Rattle.std.specs.Prelude.{◌≡◌, ℕ, zero, suc, ◌-◌, ◌*◌, ◌^◌, ◌<◌, ◌≤◌, ◌⊎◌, Bool, ◌&&◌, List, [], ◌∷◌, ◌++◌, length, take, drop, Result, Ok, Err, nat_lt, nat_le, if◌then◌else◌}
 use Rattle.std.specs.List.{flat_map, AllByRecursion}
-use Rattle.std.specs.Int.{Width, w8, w32, w64, byte_len, to_le_bytes, from_le_bytes}
+use Rattle.std.specs.Int.{Width, w32, byte_len, to_le_bytes, from_le_bytes}
 use Rattle.records.specs.declared.refusal.StepRefusal.{StepRefusal}
-use Rattle.records.specs.declared.refusal.StepRefusal.TheVariants.{Truncated, BadKind, BadField, NoMemory}
+use Rattle.records.specs.declared.refusal.StepRefusal.TheVariants.{Truncated, BadField}
 
 infixl 10 ◌>>=◌
 abbrev pub ◌>>=◌ : {A B : Type 0} → Result A StepRefusal → (A → Result B StepRefusal) → Result B StepRefusal

@@ -1,6 +1,6 @@
 -- How long the written form of a step is.
-use Rattle.std.specs.Prelude.{ℕ, ◌+◌, ◌*◌, List, length}
-use Rattle.std.specs.List.{sum_by}
+use Rattle.std.specs.Prelude.{ℕ, ◌+◌, ◌*◌, ◌≤◌, List, length}
+use Rattle.std.specs.List.{sum_by, AllByRecursion}
 use Rattle.records.specs.declared.file.SiteTexts.{SiteTexts}
 use Rattle.records.specs.declared.step.Member.{Member}
 use Rattle.records.specs.declared.step.Step.{Step}
@@ -43,3 +43,14 @@ fields_length (Flagged volume flag on) = 10
 -- a byte of the kind, eight of the moment, and the fields
 abbrev pub step_length : Step → ℕ
 step_length s = 9 + fields_length s.kind
+
+-- The limits of a site: 65,536 bytes of a command file, 1,024 of a path, 32 of a name, 2,048 of a key;
+-- 4,096 blocks of a file, 1,024 volumes, 512 members of 8 sections, 65,536 files.
+abbrev pub IsWithinLimits : StepKind → Type 0
+IsWithinLimits (Configured t) = (length t.site ≤ 65536) × (length t.archiver ≤ 65536) × (length t.stager ≤ 65536) × (length t.releaser ≤ 65536) × (length t.recycler ≤ 65536)
+IsWithinLimits (Put i path owner group n runs) = (length path ≤ 1024) × (length owner ≤ 32) × (length group ≤ 32) × (length runs ≤ 4096)
+IsWithinLimits (Renamed i path) = length path ≤ 1024
+IsWithinLimits (CopyMade set copy key members ends) = (length key ≤ 2048) × (length members ≤ 512) × AllByRecursion (λ m. length m.sections ≤ 8) members × (length ends ≤ 1024)
+IsWithinLimits (Wanted inodes) = length inodes ≤ 65536
+IsWithinLimits (Staged i copy runs) = length runs ≤ 4096
+IsWithinLimits _ = Unit {0}

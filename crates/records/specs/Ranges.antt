@@ -3,10 +3,8 @@ use Rattle.std.specs.Prelude.{ℕ, ◌<◌, ◌≤◌, ◌^◌, List, length}
 use Rattle.std.specs.List.{AllByRecursion}
 use Rattle.records.specs.declared.file.Run.{Run}
 use Rattle.records.specs.declared.file.Section.{Section}
-use Rattle.records.specs.declared.file.SiteTexts.{SiteTexts}
 use Rattle.records.specs.declared.step.Member.{Member}
 use Rattle.records.specs.declared.step.VolumeEnd.{VolumeEnd}
-use Rattle.records.specs.declared.step.Step.{Step}
 use Rattle.records.specs.declared.step.StepKind.{StepKind}
 use Rattle.records.specs.declared.step.StepKind.TheVariants.{Configured, Put, Accessed, Removed, Renamed, Attributed, CopyMade, Rearchive, Unarchived, Released, Wanted, Staged, StageFailed, Damaged, Recycling, Relabelled, Flagged}
 

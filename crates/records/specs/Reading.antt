@@ -1,7 +1,6 @@
 -- Reading a step field by field, as far as the first one without a reading.
 use Rattle.std.specs.Prelude.{◌≡◌, ℕ, Bool, List, [], ◌∷◌, length, Result, Ok, Err, ◌==◌, if◌then◌else◌}
 use Rattle.records.specs.declared.file.Run.{Run}
-use Rattle.records.specs.declared.file.SiteTexts.{SiteTexts}
 use Rattle.records.specs.declared.file.ReleaseKind.{ReleaseKind}
 use Rattle.records.specs.declared.file.StageKind.{StageKind}
 use Rattle.records.specs.declared.file.Flag.{Flag}

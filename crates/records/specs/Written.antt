@@ -1,5 +1,5 @@
 -- The one written form of each step, and the ranges of its fields.
-use Rattle.std.specs.Prelude.{◌≡◌, ℕ, zero, suc, ◌+◌, ◌-◌, ◌^◌, ◌<◌, ◌≤◌, Bool, true, false, List, [], ◌∷◌, ◌++◌}
+use Rattle.std.specs.Prelude.{◌≡◌, ℕ, zero, suc, ◌-◌, ◌^◌, Bool, true, false, List, [], ◌∷◌, ◌++◌}
 use Rattle.std.specs.Int.{w32, w64}
 use Rattle.records.specs.declared.file.Run.{Run}
 use Rattle.records.specs.declared.file.Section.{Section}

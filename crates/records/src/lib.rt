@@ -7,11 +7,11 @@ mod encode;
 mod event;
 mod fields;
 mod file;
-mod unique;
 mod names;
 mod refusal;
 mod reply;
 mod step;
+mod unique;
 mod write;
 
 pub use decode::decode_step;
@@ -21,7 +21,6 @@ pub use file::{
     CopyRec, CopySlot, CopySlots, FileRec, Flag, ReleaseKind, Run, Section, SiteTexts, StageKind,
     VolumeRec,
 };
-pub use unique::{one_form, ranges, written_length};
 pub use names::{is_legal_name, is_legal_path};
 pub use refusal::StepRefusal;
 pub use reply::{
@@ -29,6 +28,7 @@ pub use reply::{
     SummaryRow, VolumeRow, Vsn,
 };
 pub use step::{Member, Step, StepKind, VolumeEnd};
+pub use unique::{one_form, ranges, written_length};
 
 #[cfg(test)]
 mod tests;

@@ -1,5 +1,8 @@
-use Rattle.records.proofs.Lengths.{length-written}
+use Rattle.records.proofs.Lengths.{length-written, written_short}
 use Rattle.records.proofs.unique.written_length.Goals as goal
 
-pub returns : goal.returns
-returns c = length-written
+pub returns-clause-exact : goal.returns-clause-exact
+returns-clause-exact c = length-written
+
+pub returns-clause-short : goal.returns-clause-short
+returns-clause-short c = written_short

@@ -1,0 +1,106 @@
+//! The objects of the host, made for the top call.
+
+use crate::top::{is_form, samq};
+use bank::{FileBank, FileBankRefusal};
+use outside::{DiskFolder, LiteralPatterns, StandardInput, StandardOutput, SystemClock};
+use site_text::List;
+use std::alloc::AllocError;
+use std::fs;
+use std::fs::File;
+use std::rt::{Env, Files};
+use std::{env, io};
+
+/// Why an object could not be made.
+enum Refusal {
+    NoMemory,
+    Failed,
+    InUse,
+}
+
+impl From<AllocError> for Refusal {
+    fn from(_: AllocError) -> Self {
+        Refusal::NoMemory
+    }
+}
+
+impl From<FileBankRefusal> for Refusal {
+    fn from(refusal: FileBankRefusal) -> Self {
+        match refusal {
+            FileBankRefusal::Locked => Refusal::InUse,
+            FileBankRefusal::Failed => Refusal::Failed,
+            FileBankRefusal::NoMemory => Refusal::NoMemory,
+        }
+    }
+}
+
+// The words after the program's name.
+fn words(rt: &HostRuntime) -> io::Result<Vec<String>> {
+    let mut words = Vec::new(rt.alloc());
+    for (place, word) in env::args(rt)?.enumerate() {
+        if place > 0 {
+            words.push(word)?;
+        }
+    }
+    Ok(words)
+}
+
+// Opens the store in the folder `bank` of a folder; both are made if they are not there.
+fn open_bank(rt: &HostRuntime, folder: &str) -> Result<FileBank<HostRuntime>, Refusal> {
+    let path = format!(in rt.alloc(); "{folder}/bank")?;
+    if fs::create_dir_all(rt, path.as_str()).is_err() {
+        return Err(Refusal::Failed);
+    }
+    Ok(FileBank::open(rt.clone()?, rt.alloc(), path.as_str())?)
+}
+
+// Answers standard input over the store of the folder.
+fn answer(rt: &HostRuntime, words: &[String], folder: &str) -> Result<u8, Refusal> {
+    let alloc = rt.alloc();
+    let bank = open_bank(rt, folder)?;
+    let mut clock = SystemClock::new(rt.clone()?);
+    let mut texts = DiskFolder::new(alloc, rt.clone()?, folder)?;
+    let patterns = LiteralPatterns::new(alloc, List::new(alloc), List::new(alloc));
+    let mut input = StandardInput::new(rt.reader());
+    let mut output = StandardOutput::new(rt.clone()?);
+    let outcome = samq(
+        alloc,
+        words,
+        bank,
+        &mut clock,
+        &mut texts,
+        patterns,
+        &mut input,
+        &mut output,
+    );
+    Ok(outcome.status)
+}
+
+// Tells why the program ended before it read a line, and gives its status.
+fn tell(rt: &HostRuntime, refusal: Refusal, folder: &str) -> u8 {
+    let (status, told) = match refusal {
+        Refusal::NoMemory => (9, eprintln!(rt; "samq: no memory")),
+        Refusal::Failed => (3, eprintln!(rt; "samq: the store of {folder} cannot be opened")),
+        Refusal::InUse => (3, eprintln!(rt; "samq: the store of {folder} is in use by another process")),
+    };
+    let _ = told;
+    status
+}
+
+/// Runs the program by the words of its call, and gives its status.
+pub fn run(rt: &HostRuntime) -> u8 {
+    let words = match words(rt) {
+        Ok(words) if is_form(&words) => words,
+        _ => {
+            let _ = eprintln!(rt; "usage: samq run DIR");
+            return 1;
+        }
+    };
+    let folder = match words.get(1) {
+        Some(folder) => folder.as_str(),
+        None => return 1,
+    };
+    match answer(rt, &words, folder) {
+        Ok(status) => status,
+        Err(refusal) => tell(rt, refusal, folder),
+    }
+}

@@ -1,0 +1,67 @@
+//! The top call.
+
+ghost use Rattle.std.specs.Prelude.{◌≡◌, ℕ, ◌↔◌, [], false, true, map, string_bytes};
+ghost use Rattle.samq.specs.Words.{is_run};
+ghost use Rattle.session.specs.Session.{seen};
+ghost use Rattle.session.specs.Outcomes.{IsOutcome, HasStatus, AreOfEngine};
+
+use bank::Bank;
+use outside::{Clock, Folder, Patterns, Sink, Source};
+use session::{Outcome, run_lines};
+use site_text::List;
+use std::alloc::Global;
+
+/// How many bytes are read at the most.
+const BUDGET: u64 = 4_294_967_296;
+
+/// Whether the words are `run DIR`.
+pub fn is_form(words: &[String]) -> bool
+    ensures { result ≡ is_run (map string_bytes words.now) }
+{
+    match words {
+        [word, _] => word.as_str() == "run",
+        _ => false,
+    }
+}
+
+/// Answers the lines of an input over a store, where the words are `run DIR`; DIR is not read here. At any other words the
+/// status is 1, and nothing is read or written. The bank and the patterns are handed back at every status.
+pub fn samq<B: Bank, C: Clock, F: Folder, P: Patterns, I: Source, O: Sink>(
+    alloc: Global,
+    words: &[String],
+    bank: B,
+    clock: &mut C,
+    folder: &mut F,
+    patterns: P,
+    input: &mut I,
+    output: &mut O,
+) -> Outcome<B, P>
+    ensures words { (result.status ≡ 1) ↔ (is_run (map string_bytes words.now) ≡ false) }
+    // What was read, asked, answered and written, and what ended the run.
+    ensures outcome { is_run (map string_bytes words.now) ≡ true → IsOutcome (AreOfEngine result.bank result.patterns) B.tells ((B.view bank).content 0 0) 4294967296
+        (seen I.left I.faults O.written O.faults B.faults B.view input.old output.old bank)
+        (seen I.left I.faults O.written O.faults B.faults B.view input.new output.new result.bank)
+        result.marks result.status }
+    // The causes of the status, and what the statuses 0, 2 and 7 mean.
+    ensures status { is_run (map string_bytes words.now) ≡ true → HasStatus B.tells ((B.view bank).content 0 0) 4294967296
+        (seen I.left I.faults O.written O.faults B.faults B.view input.old output.old bank)
+        (seen I.left I.faults O.written O.faults B.faults B.view input.new output.new result.bank)
+        result.status }
+    ensures untouched { is_run (map string_bytes words.now) ≡ false
+        → (input.new ≡ input.old) × (output.new ≡ output.old) × (result.bank ≡ bank) × (result.marks ≡ []) }
+    ensures patterns { result.patterns ≡ patterns }
+    ensures clock { clock.new ≡ clock.old }
+    ensures folder { folder.new ≡ folder.old }
+    ensures source_beside { I.beside input.new ≡ I.beside input.old }
+    ensures sink_beside { O.beside output.new ≡ O.beside output.old }
+{
+    if !is_form(words) {
+        return Outcome {
+            status: 1,
+            marks: List::new(alloc),
+            bank,
+            patterns,
+        };
+    }
+    run_lines(alloc, bank, clock, folder, patterns, input, output, BUDGET)
+}
