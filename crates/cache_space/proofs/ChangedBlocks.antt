@@ -1,10 +1,10 @@
 -- Runs in the middle of what is held that go, or that others replace.
-use Rattle.std.proofs.Common.{◌≡◌, ℕ, ◌||◌, Bool, true, false, List, [], ◌∷◌, ◌++◌, refl, sym, ◌∙◌, ap}
+use Rattle.std.proofs.Common.{◌≡◌, ℕ, ◌||◌, Bool, true, false, List, ◌++◌, refl, sym, ◌∙◌, ap}
 use Rattle.records.specs.declared.file.Run.{Run}
 use Rattle.cache_space.specs.Blocks.{is_in_runs}
 use Rattle.cache_space.specs.Space.{taken_by, AreThere, AreApart, AreDisjoint}
 use Rattle.cache_space.proofs.RunLemmas.{is_in_runs-append}
-use Rattle.cache_space.proofs.HeldBlocks.{HaveSameBlocks, taken_by-same, AreApart-sym, AreApart-append, AreApart-append_right, AreApart-from_append, AreApart-from_append_right, AreThere-append, AreThere-from_append, AreDisjoint-append, AreDisjoint-from_append}
+use Rattle.cache_space.proofs.HeldBlocks.{HaveSameBlocks, taken_by-same, AreApart-sym, AreApart-append, AreApart-append_right, AreApart-from_append_right, AreThere-append, AreThere-from_append, AreDisjoint-append, AreDisjoint-from_append}
 
 in_three : (xs ys zs : List Run) (block : ℕ) → is_in_runs (xs ++ (ys ++ zs)) block ≡ (is_in_runs xs block || (is_in_runs ys block || is_in_runs zs block))
 in_three xs ys zs block = is_in_runs-append xs (ys ++ zs) block ∙ ap (λ b. is_in_runs xs block || b) (is_in_runs-append ys zs block)

@@ -1,13 +1,11 @@
 -- Runs with no block in common are apart on the disk too.
-use Rattle.std.proofs.Common.{◌≡◌, ℕ, ◌+◌, ◌*◌, ◌<◌, ◌≤◌, Bool, true, false, ◌||◌, List, [], ◌∷◌, length, get_or, refl, sym, ◌∙◌, ap, ◌⊎◌, inl, inr, ⊎_elim, arith, suc, zero}
-use Rattle.std.specs.List.{Contains}
+use Rattle.std.proofs.Common.{◌≡◌, ℕ, ◌+◌, ◌*◌, ◌<◌, ◌≤◌, Bool, true, false, ◌||◌, List, [], ◌∷◌, length, get_or, refl, ◌⊎◌, inl, inr, ⊎_elim, arith, suc, zero}
 use Rattle.std.proofs.lemmas.Bool.{both_ways, or_left, cases_lt, false_from_ne_true}
 use Rattle.std.proofs.lemmas.List.Folds.{list_any_at}
 use Rattle.records.specs.declared.file.Run.{Run}
 use Rattle.cache_space.specs.Blocks.{is_in_run, is_in_runs}
 use Rattle.cache_space.specs.Space.{AreApart, AreDisjoint}
 use Rattle.cache_space.proofs.RunLemmas.{is_in_run_from}
-use Rattle.cache_space.proofs.HeldBlocks.{AreApart-sym}
 
 abbrev pub RunsApart : Run → Run → Type 0
 RunsApart r s = AreApart (r ∷ []) (s ∷ [])

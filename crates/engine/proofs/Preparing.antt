@@ -55,8 +55,8 @@ pub fields_put : (fields : Fields) (moment : ℕ) (path owner group : List ℕ) 
     → put_of put ≡ put_for fields path owner group size
 fields_put fields moment path owner group size put step is made =
     let both : Put put.inode put.path put.owner put.group put.length put.runs
-        ≡ Put (inode_for fields path) path owner group size (lowest_runs fields.blocks (held_runs fields.files) (blocks_for size)) =
-        sym is ∙ ap (λ (s : Step). s.kind) made in
+    ≡ Put (inode_for fields path) path owner group size (lowest_runs fields.blocks (held_runs fields.files) (blocks_for size)) =
+    sym is ∙ ap (λ (s : Step). s.kind) made in
     let e1 : put.inode ≡ inode_for fields path = cc in
     let e2 : put.path ≡ path = cc in
     let e3 : put.owner ≡ owner = cc in
@@ -64,7 +64,7 @@ fields_put fields moment path owner group size put step is made =
     let e5 : put.length ≡ size = cc in
     let e6 : put.runs ≡ lowest_runs fields.blocks (held_runs fields.files) (blocks_for size) = cc in
     make put.inode (inode_for fields path) put.path path put.owner owner put.group group put.length size put.runs
-        (lowest_runs fields.blocks (held_runs fields.files) (blocks_for size)) e1 e2 e3 e4 e5 e6
+    (lowest_runs fields.blocks (held_runs fields.files) (blocks_for size)) e1 e2 e3 e4 e5 e6
   where
     make : (a a' : ℕ) (b b' c c' d d' : List ℕ) (e e' : ℕ) (f f' : List Run) → a ≡ a' → b ≡ b' → c ≡ c' → d ≡ d' → e ≡ e' → f ≡ f'
         → (let x : PutOf = record { inode = a; path = b; owner = c; group = d; length = e; runs = f } in x)

@@ -120,7 +120,7 @@ module _ {B P : Type 0} (engine : Engine B P) (history : List HistoryStep) (path
           files
           ∙ ap (λ (l : List FileRec). l ++ file ∷ []) stands.keeps.files
           ∙ sym (with_file-new file (after history).fields.files
-            (subst (λ (n : ℕ). AreBelow n (after history).fields.files) (sym inode_new) (orderly history stands.history).below))
+          (subst (λ (n : ℕ). AreBelow n (after history).fields.files) (sym inode_new) (orderly history stands.history).below))
           ∙ ap (λ (f : FileRec). with_file f (after history).fields.files) stored_new
 
       next_new : new.site.next_inode ≡ next_after (after history).fields path

@@ -98,7 +98,8 @@ impl<B: Bank, P: Drop> Engine<B, P> {
         ensures patterns { MatchResult result (λ engine. engine.patterns ≡ patterns) (λ shut. shut.patterns ≡ patterns) }
         ensures moment { IsTrue B.tells → IfOk result (λ engine. (B.view bank).moment ≤ (B.view engine.bank).moment) }
     {
-        let (Ok(site), Ok(payload)) = (no_files(alloc), Vec::with_capacity(alloc, PAYLOAD_MAX)) else {
+        let (Ok(site), Ok(payload)) = (no_files(alloc), Vec::with_capacity(alloc, PAYLOAD_MAX))
+        else {
             return Err(Shut {
                 cause: ShutCause::NoMemory,
                 bank,

@@ -175,7 +175,7 @@ impl<B: Bank, P: Drop> Engine<B, P> {
         ensures turn { (history : Seq HistoryStep) (path owner group : Seq ℕ) → StandsFor self.old (at history self.old.clock)
             → IsReady self.old (after history).fields path owner group put bytes.now
             → (w : World) × TurnBy (course_of result (B.last_fault self.new.bank)) (answer_in self.old.journal.size history self.old.clock (PutEvent path owner group bytes.now))
-                (at history self.old.clock) self.old.clock result w × StandsFor self.new w }
+            (at history self.old.clock) self.old.clock result w × StandsFor self.new w }
         ensures fault { result ≡ Reply.BankFault → Rose (B.faults self.old.bank) (B.faults self.new.bank) }
         ensures later { B.faults self.old.bank ≤ B.faults self.new.bank }
         ensures open { result ≢ Reply.BankFault → self.new.due ≡ false }
@@ -214,7 +214,7 @@ impl<B: Bank, P: Drop> Engine<B, P> {
         ensures turn { (history : Seq HistoryStep) (path owner group : Seq ℕ) → StandsFor self.old (at history self.old.clock)
             → IsReady self.old (after history).fields path owner group put bytes.now
             → (w : World) × TurnBy (course_of result (B.last_fault self.new.bank)) (answer_in self.old.journal.size history self.old.clock (PutEvent path owner group bytes.now))
-                (at history self.old.clock) self.old.clock result w × StandsFor self.new w }
+            (at history self.old.clock) self.old.clock result w × StandsFor self.new w }
         ensures fault { result ≡ Reply.BankFault → Rose (B.faults self.old.bank) (B.faults self.new.bank) }
         ensures later { B.faults self.old.bank ≤ B.faults self.new.bank }
         ensures open { result ≢ Reply.BankFault → self.new.due ≡ false }
@@ -234,7 +234,7 @@ impl<B: Bank, P: Drop> Engine<B, P> {
         requires { self.old.due ≡ false }
         ensures turn { (history : Seq HistoryStep) → StandsFor self.old (at history self.old.clock)
             → (w : World) × TurnBy (course_of result (B.last_fault self.new.bank)) (answer_in self.old.journal.size history self.old.clock (PutEvent path.now owner.now group.now bytes.now))
-                (at history self.old.clock) self.old.clock result w × StandsFor self.new w }
+            (at history self.old.clock) self.old.clock result w × StandsFor self.new w }
         ensures fault { result ≡ Reply.BankFault → Rose (B.faults self.old.bank) (B.faults self.new.bank) }
         ensures later { B.faults self.old.bank ≤ B.faults self.new.bank }
         ensures open { result ≢ Reply.BankFault → self.new.due ≡ false }

@@ -5,10 +5,9 @@ use bank::{FileBank, FileBankRefusal};
 use outside::{DiskFolder, LiteralPatterns, StandardInput, StandardOutput, SystemClock};
 use site_text::List;
 use std::alloc::AllocError;
-use std::fs;
 use std::fs::File;
 use std::rt::{Env, Files};
-use std::{env, io};
+use std::{env, fs, io};
 
 /// Why an object could not be made.
 enum Refusal {
@@ -79,8 +78,14 @@ fn answer(rt: &HostRuntime, words: &[String], folder: &str) -> Result<u8, Refusa
 fn tell(rt: &HostRuntime, refusal: Refusal, folder: &str) -> u8 {
     let (status, told) = match refusal {
         Refusal::NoMemory => (9, eprintln!(rt; "samq: no memory")),
-        Refusal::Failed => (3, eprintln!(rt; "samq: the store of {folder} cannot be opened")),
-        Refusal::InUse => (3, eprintln!(rt; "samq: the store of {folder} is in use by another process")),
+        Refusal::Failed => (
+            3,
+            eprintln!(rt; "samq: the store of {folder} cannot be opened"),
+        ),
+        Refusal::InUse => (
+            3,
+            eprintln!(rt; "samq: the store of {folder} is in use by another process"),
+        ),
     };
     let _ = told;
     status

@@ -10,5 +10,5 @@ fn main(rt: HostRuntime) -> ExitCode {
     ExitCode::from(host::run(&rt))
 }
 
-
-
+#[cfg(test)]
+mod tests;

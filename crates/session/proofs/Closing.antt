@@ -1,15 +1,15 @@
 -- From a loop that goes on to a session that has ended.
-use Rattle.std.proofs.Common.{◌≡◌, ◌⊎◌, inl, inr, ℕ, ◌+◌, ◌<◌, ◌≤◌, List, [], ◌∷◌, ◌++◌, length, take, map, refl, sym, ◌∙◌, ap, subst, arith, Bool, true, false, cond, append_assoc, length-append, Option, Some, None, IsTrue}
+use Rattle.std.proofs.Common.{◌≡◌, ◌⊎◌, inl, inr, ℕ, ◌+◌, ◌≤◌, List, [], ◌∷◌, ◌++◌, length, take, map, refl, sym, ◌∙◌, ap, subst, arith, Bool, true, false, cond, append_assoc, Option, Some, None, IsTrue}
 use Rattle.std.proofs.lemmas.List.{append-nil}
 use Rattle.std.proofs.KnownBytes.{Appends-nil, Appends-trans}
-use Rattle.std.specs.Io.KnownBytes.{Appends, Consumes, IsAtEnd}
-use Rattle.site_text.specs.Causes.{Rose, AreCounted}
+use Rattle.std.specs.Io.KnownBytes.{Appends}
+use Rattle.site_text.specs.Causes.{AreCounted}
 use Rattle.desk.specs.Texts.{text_of}
 use Rattle.input.specs.Reading.{Reading, Items, Moved}
 use Rattle.input.proofs.Steps.{stays, then_moved}
 use Rattle.site_history.specs.Worlds.{World}
 use Rattle.session.specs.Asking.{Request}
-use Rattle.session.specs.Rounds.{Round, IsRoundOf, GoOn, ends_run, IsRun, world_after, asked, output, AreInTime, mark_of, marks_from, cause_of, first_of, status_from, faults_of, faults_in, calm}
+use Rattle.session.specs.Rounds.{Round, IsRoundOf, IsRun, world_after, asked, output, AreInTime, mark_of, marks_from, cause_of, first_of, status_from, faults_of, faults_in, calm}
 use Rattle.session.specs.Machine.{told_of, machine_run}
 use Rattle.session.specs.Session.{Outside, IsSession, Ends, status_of}
 use Rattle.session.specs.Hearing.{Takes, Stops}

@@ -1,14 +1,11 @@
 -- From the session of an engine to the session of a call.
-use Rattle.std.proofs.Common.{◌≡◌, ◌≢◌, ℕ, ◌≤◌, List, ◌++◌, refl, sym, subst, ap, ◌∙◌, arith, Bool, Option, IsTrue}
-use Rattle.std.specs.Io.KnownBytes.{Appends, Consumes}
-use Rattle.site_text.specs.Causes.{Rose}
+use Rattle.std.proofs.Common.{◌≡◌, ℕ, ◌≤◌, List, ◌++◌, refl, sym, subst, arith, Bool, Option, IsTrue}
 use Rattle.bank.specs.View.{View}
 use Rattle.input.specs.Reading.{Items}
 use Rattle.site_history.specs.Worlds.{World}
 use Rattle.engine.specs.declared.kept.Engine.{Engine}
 use Rattle.engine.specs.StandsFor.{StandsFor}
 use Rattle.session.specs.Asking.{Request, asks_of}
-use Rattle.session.specs.Rounds.{output}
 use Rattle.session.specs.Session.{Outside, IsSession, Ends}
 use Rattle.session.specs.Outcomes.{AreOfEngine, fresh_world, journal_bytes}
 use Rattle.session.specs.declared.kept.Mark.{Mark}

@@ -1,5 +1,5 @@
 -- From lines to what they ask.
-use Rattle.std.proofs.Common.{◌≡◌, ◌<◌, ℕ, List, [], ◌∷◌, ◌++◌, length, refl, ap, ◌∙◌, Option, Bool, true, false, cond, inl, inr, ◌⊎◌, Result, Ok, Err, sym, subst}
+use Rattle.std.proofs.Common.{◌≡◌, ℕ, List, [], ◌∷◌, refl, ap, ◌∙◌, Option, Bool, false, cond, inl, inr, Result, Ok, Err, sym, subst}
 use Rattle.std.specs.Prelude.{flat_map}
 use Rattle.std.proofs.lemmas.List.{append-nil}
 use Rattle.records.specs.declared.event.Asked.{Asked}
@@ -9,7 +9,7 @@ use Rattle.desk.specs.Asks.{is_skipped, asked_of, Answers}
 use Rattle.input.specs.declared.plain.RawLine.{RawLine}
 use Rattle.input.specs.declared.plain.RawLine.TheVariants.{Kept, Long}
 use Rattle.input.specs.Lines.{raw_lines}
-use Rattle.input.specs.Reading.{Reading, ReadsItem, MeetsEnd, StopsAtFault, StopsOverBudget}
+use Rattle.input.specs.Reading.{Reading, ReadsItem}
 use Rattle.session.specs.Asking.{Request, requests_of, asks_of}
 use Rattle.session.specs.Hearing.{Takes, IsReadAs}
 

@@ -1,14 +1,13 @@
 -- The machine's answers, and those of a session up to the first fault or want of memory.
-use Rattle.std.proofs.Common.{◌≡◌, ◌⊎◌, inl, inr, ℕ, List, [], ◌∷◌, ◌++◌, length, take, map, refl, sym, ◌∙◌, ap, subst, arith, Bool, true, false, cond, Option, Some, None, Result, Ok, Err, not}
+use Rattle.std.proofs.Common.{◌≡◌, ◌⊎◌, inl, inr, ℕ, List, [], ◌∷◌, ◌++◌, length, take, map, refl, ◌∙◌, ap, subst, arith, Bool, true, false, cond, Option, Some, None, Ok, Err}
 use Rattle.std.proofs.lemmas.Bool.{eqb-true}
-use Rattle.std.specs.Prelude.{flat_map, nat_eq, nat_le, is_some, ◌&&◌}
+use Rattle.std.specs.Prelude.{flat_map, nat_eq}
 use Rattle.records.specs.declared.event.Asked.{Asked}
 use Rattle.records.specs.declared.event.Asked.TheVariants.{One}
 use Rattle.records.specs.declared.event.Event.{Event}
 use Rattle.records.specs.declared.event.Event.TheVariants.{Put as PutEvent}
 use Rattle.records.specs.declared.reply.Reply.{Reply}
 use Rattle.records.specs.declared.reply.Reply.TheVariants.{Line, BankFault, FolderFault, BadJournal, NoMemory}
-use Rattle.records.specs.declared.reply.LineRefusal.{LineRefusal}
 use Rattle.records.specs.declared.reply.LineRefusal.TheVariants.{NotACommand}
 use Rattle.records.specs.declared.reply.Rule.{Rule}
 use Rattle.desk.specs.Texts.{text_of}
@@ -16,7 +15,7 @@ use Rattle.site_history.specs.Site.{Fields}
 use Rattle.site_history.specs.Steps.{HistoryStep}
 use Rattle.site_history.specs.Answers.{Answer, answer_to, put_rule, put_answer_by}
 use Rattle.site_history.specs.Histories.{after}
-use Rattle.site_history.specs.Worlds.{World, Turn, TurnBy, Course, Goes, Stays, Owes, course_of, answer_in, has_room, moment_of, with_step, at}
+use Rattle.site_history.specs.Worlds.{World, Turn, TurnBy, Course, Goes, course_of, answer_in, has_room, moment_of}
 use Rattle.session.specs.Asking.{Request}
 use Rattle.session.specs.Rounds.{Round, Answers, IsRoundOf, IsRun, asked, output, cause_of, faults_of, calm}
 use Rattle.session.specs.Machine.{Told, told_of, machine_tells, machine_run}

@@ -1,8 +1,6 @@
 -- One round from its parts.
-use Rattle.std.proofs.Common.{◌≡◌, ◌+◌, ◌≤◌, ℕ, List, ◌∷◌, length, refl, sym, ◌∙◌, ap, subst, Option, Bool, IsTrue, Result, arith}
+use Rattle.std.proofs.Common.{◌≡◌, ◌+◌, ◌≤◌, ℕ, List, length, refl, ◌∙◌, ap, subst, Option, Bool, IsTrue, arith}
 use Rattle.site_text.specs.Causes.{AreCounted}
-use Rattle.records.specs.declared.event.Asked.{Asked}
-use Rattle.records.specs.declared.reply.LineRefusal.{LineRefusal}
 use Rattle.records.specs.declared.reply.Reply.{Reply}
 use Rattle.site_history.specs.Worlds.{World}
 use Rattle.session.specs.Asking.{Request}

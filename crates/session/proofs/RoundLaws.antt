@@ -1,8 +1,7 @@
 -- One round more.
-use Rattle.std.proofs.Common.{◌≡◌, ℕ, ◌+◌, ◌^◌, ◌≤◌, List, [], ◌∷◌, ◌++◌, length, map, refl, sym, ◌∙◌, ap, arith, Bool, false, cond, suc, zero, append_assoc, min}
+use Rattle.std.proofs.Common.{◌≡◌, ℕ, ◌+◌, ◌≤◌, List, [], ◌∷◌, ◌++◌, length, refl, sym, ◌∙◌, ap, arith, Bool, false, cond, suc, zero, append_assoc}
 use Rattle.std.proofs.lemmas.List.{append-nil}
 use Rattle.std.proofs.lemmas.Bool.{ne_eqb}
-use Rattle.std.specs.Prelude.{flat_map, nat_eq}
 use Rattle.site_text.specs.Causes.{AreCounted}
 use Rattle.desk.specs.Texts.{text_of}
 use Rattle.site_history.specs.Worlds.{World}

@@ -1,26 +1,22 @@
 -- The causes of a status.
-use Rattle.std.proofs.Common.{◌≡◌, ◌≢◌, ◌⊎◌, inl, inr, ℕ, ◌+◌, ◌<◌, ◌≤◌, List, [], ◌∷◌, ◌++◌, length, take, map, refl, sym, ◌∙◌, ap, subst, arith, Bool, true, false, cond, append_assoc, length-append, Option, Some, None, IfSome, IsTrue}
+use Rattle.std.proofs.Common.{◌≡◌, ◌≢◌, ◌⊎◌, inl, inr, ℕ, ◌<◌, ◌≤◌, List, [], ◌∷◌, ◌++◌, length, take, refl, sym, ◌∙◌, ap, subst, arith, Bool, true, false, cond, length-append, Option, Some, None, IfSome, IsTrue}
 use Rattle.std.proofs.lemmas.List.{append-nil, take_all}
 use Rattle.std.proofs.lemmas.Bool.{eqb-true}
 use Rattle.std.specs.Prelude.{nat_eq, flat_map}
 use Rattle.std.specs.Io.KnownBytes.{Appends, Consumes, IsAtEnd}
-use Rattle.site_text.specs.Causes.{Rose, AreCounted}
-use Rattle.bank.specs.View.{View}
+use Rattle.site_text.specs.Causes.{Rose}
 use Rattle.records.specs.declared.reply.Reply.{Reply}
 use Rattle.records.specs.declared.reply.Reply.TheVariants.{BankFault}
 use Rattle.desk.specs.Texts.{text_of}
-use Rattle.input.specs.Reading.{Items}
 use Rattle.site_history.specs.Worlds.{World}
-use Rattle.engine.specs.declared.kept.Engine.{Engine}
-use Rattle.engine.specs.StandsFor.{StandsFor}
 use Rattle.session.specs.Asking.{Request, asks_of}
-use Rattle.session.specs.Rounds.{Round, GoOn, ends_run, IsRun, world_after, asked, output, AreInTime, marks_from, cause_of, first_of, status_from, faults_of, faults_in, calm}
-use Rattle.session.specs.Machine.{Told, told_of, machine_run, output_of}
+use Rattle.session.specs.Rounds.{Round, ends_run, IsRun, asked, output, cause_of, first_of, status_from, faults_in, calm}
+use Rattle.session.specs.Machine.{Told, output_of}
 use Rattle.session.specs.Session.{Outside, IsSession, Ends, status_of}
-use Rattle.session.specs.Outcomes.{HasStatus, IsOutcome, IsRefused, AreOfEngine, fresh_world, journal_bytes}
+use Rattle.session.specs.Outcomes.{HasStatus, IsOutcome, IsRefused, fresh_world, journal_bytes}
 use Rattle.session.specs.declared.kept.Mark.{Mark}
 use Rattle.session.specs.declared.kept.Ending.{Ending}
-use Rattle.session.proofs.RoundLaws.{asked-length, earlier, first_suc}
+use Rattle.session.proofs.RoundLaws.{asked-length, first_suc}
 use Rattle.session.proofs.MachineLaws.{CauseOf, round_cause, output_told}
 
 -- a status is that of what ended the run, or that of a reply

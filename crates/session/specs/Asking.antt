@@ -1,5 +1,5 @@
 -- What the lines of an input ask.
-use Rattle.std.specs.Prelude.{ℕ, Bool, if◌then◌else◌, Result, Ok, Err, List, [], ◌∷◌, flat_map}
+use Rattle.std.specs.Prelude.{if◌then◌else◌, Result, Err, List, [], ◌∷◌, flat_map}
 use Rattle.records.specs.declared.event.Asked.{Asked}
 use Rattle.records.specs.declared.reply.LineRefusal.{LineRefusal}
 use Rattle.records.specs.declared.reply.LineRefusal.TheVariants.{NotACommand, BadWord, LineTooLong, NoMemory as WantOfMemory}

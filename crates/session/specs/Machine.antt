@@ -1,6 +1,5 @@
 -- What is answered where nothing fails: a function of what is asked.
-use Rattle.std.specs.Prelude.{ℕ, List, [], ◌∷◌, map, flat_map, Result, Ok, Err}
-use Rattle.records.specs.declared.event.Asked.{Asked}
+use Rattle.std.specs.Prelude.{ℕ, List, [], ◌∷◌, flat_map, Ok, Err}
 use Rattle.records.specs.declared.event.Asked.TheVariants.{One}
 use Rattle.records.specs.declared.reply.LineRefusal.TheVariants.{NotACommand}
 use Rattle.records.specs.declared.reply.Reply.{Reply}

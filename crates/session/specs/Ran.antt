@@ -1,5 +1,5 @@
 -- What a loop over the lines of an input keeps.
-use Rattle.std.specs.Prelude.{◌≡◌, ℕ, List, [], ◌∷◌, ◌++◌, Bool, true, false, IsTrue}
+use Rattle.std.specs.Prelude.{◌≡◌, ℕ, List, [], ◌++◌, Bool, true, false, IsTrue}
 use Rattle.std.specs.Io.KnownBytes.{Appends}
 use Rattle.site_text.specs.Causes.{AreCounted}
 use Rattle.input.specs.Reading.{Reading, Items, Moved}

@@ -1,9 +1,6 @@
 -- Rounds: what was asked, what was answered, and what followed from it.
-use Rattle.std.specs.Prelude.{◌≡◌, ◌⊎◌, ◌+◌, ◌≤◌, ℕ, List, [], ◌∷◌, length, map, flat_map, Bool, true, false, cond, nat_eq, Result, Ok, Err, Option, Some, None}
-use Rattle.records.specs.declared.event.Asked.{Asked}
+use Rattle.std.specs.Prelude.{◌≡◌, ◌⊎◌, ◌+◌, ◌≤◌, ℕ, List, [], ◌∷◌, length, map, flat_map, Bool, true, false, cond, nat_eq, Ok, Err}
 use Rattle.records.specs.declared.event.Asked.TheVariants.{One}
-use Rattle.records.specs.declared.event.Event.{Event}
-use Rattle.records.specs.declared.reply.LineRefusal.{LineRefusal}
 use Rattle.records.specs.declared.reply.LineRefusal.TheVariants.{NotACommand}
 use Rattle.records.specs.declared.reply.Reply.{Reply}
 use Rattle.records.specs.declared.reply.Reply.TheVariants.{Line, BankFault, FolderFault, BadJournal, NoMemory}

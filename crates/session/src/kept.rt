@@ -17,7 +17,9 @@ pub struct Mark {
 #[derive(Drop)]
 pub struct Session<B, P> {
     pub engine: Engine<B, P>,
+    /// One for each answer that was written whole.
     pub marks: Vec<Mark>,
+    /// 3 where the first cause was a fault of the store, 9 where it was want of memory, and 0 where none came.
     pub status: u8,
 }
 

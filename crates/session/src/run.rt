@@ -28,6 +28,9 @@ const JOURNAL_BYTES: u64 = 268_435_456;
 /// What a run hands back.
 #[derive(Drop)]
 pub struct Outcome<B, P> {
+    /// 0 where the input was read to its end and no answer was a fault or want of memory. Else what came first: 2 for a
+    /// journal that is not empty, 3 for a fault of the store, 4 of the source, 5 of the sink, 7 for an input longer than
+    /// the budget, 9 for want of memory.
     pub status: u8,
     /// One for each answer that was written whole.
     pub marks: List<Mark>,

@@ -33,7 +33,7 @@ admitted_by : (fields : Fields) (path owner group : List ℕ) (size : ℕ) (tp t
     → is_legal_path path ≡ tp → is_legal_name owner ≡ to → is_legal_name group ≡ tg → is_some (file_at path fields.files) ≡ there
     → nat_lt 16777216 size ≡ large → is_full fields ≡ many → lacks_space fields size ≡ lacking
     → cond (not tp) (Some BadPath) (cond (not (to && tg)) (Some BadAttribute) (cond there (Some Exists)
-      (cond large (Some TooLarge) (cond many (Some TooMany) (cond lacking (Some NoSpace) None))))) ≡ None
+    (cond large (Some TooLarge) (cond many (Some TooMany) (cond lacking (Some NoSpace) None))))) ≡ None
     → IsAdmitted fields path owner group size
 admitted_by fields path owner group size true true true false false false false p o g t l m s e =
     let many : nat_le 16384 (length fields.files) || nat_lt 4294967294 fields.next_inode ≡ false = m in
@@ -63,14 +63,17 @@ module _ (fields : Fields) (path owner group : List ℕ) (size : ℕ) where
   inode_for-new a = ap (λ (o : Option FileRec). option_map_or (λ (file : FileRec). file.inode) o fields.next_inode) a.new
 
   pub put_legal : (moment : ℕ) → IsAdmitted fields path owner group size → fields.moment ≤ moment → IsLegal fields (put_made fields moment path owner group size)
-  put_legal moment a later = (later, record {
-    path = a.legal_path;
-    owner = a.legal_owner;
-    group = a.legal_group;
-    small = a.small;
-    inode = refl;
-    fits = subst (λ (o : Option FileRec). MatchOption o ((length fields.files < 65536) × (fields.next_inode ≤ 4294967294)) (λ _. Unit {0})) (sym a.new) (omega (arith, a.few), a.inode);
-    maximal = lowest_runs-maximal fields.blocks (held_runs fields.files) (blocks_for size);
-    free = lowest_runs-free fields.blocks (held_runs fields.files) (blocks_for size);
-    blocks = blocks_in-lowest_runs fields.blocks (held_runs fields.files) (blocks_for size) a.space;
-  })
+  put_legal moment a later = (
+    later,
+    record {
+      path = a.legal_path;
+      owner = a.legal_owner;
+      group = a.legal_group;
+      small = a.small;
+      inode = refl;
+      fits = subst (λ (o : Option FileRec). MatchOption o ((length fields.files < 65536) × (fields.next_inode ≤ 4294967294)) (λ _. Unit {0})) (sym a.new) (omega (arith, a.few), a.inode);
+      maximal = lowest_runs-maximal fields.blocks (held_runs fields.files) (blocks_for size);
+      free = lowest_runs-free fields.blocks (held_runs fields.files) (blocks_for size);
+      blocks = blocks_in-lowest_runs fields.blocks (held_runs fields.files) (blocks_for size) a.space;
+    },
+  )

@@ -34,8 +34,12 @@ module _ (fields : Fields) (moment : ℕ) (put : PutOf) (orderly : IsOrderly fie
   put_orderly : (o : Option FileRec) → ((file : FileRec) → o ≡ Some file → file.inode < fields.next_inode)
       → put.inode ≡ option_map_or (λ (file : FileRec). file.inode) o fields.next_inode
       → MatchOption o ((length fields.files < 65536) × (fields.next_inode ≤ 4294967294)) (λ _. Unit {0})
-      → IsOrderly (record { files = with_file (stored_file o moment put) fields.files;
-        next_inode = option_map_or (λ (file : FileRec). fields.next_inode) o (fields.next_inode + 1); moment = moment; blocks = fields.blocks })
+      → IsOrderly (record {
+        files = with_file (stored_file o moment put) fields.files;
+        next_inode = option_map_or (λ (file : FileRec). fields.next_inode) o (fields.next_inode + 1);
+        moment = moment;
+        blocks = fields.blocks;
+      })
   put_orderly None member inode fits = record {
     below = are_below-with (fields.next_inode + 1) (stored_file None moment put) fields.files (omega (arith, inode)) (are_below-more fields.next_inode (fields.next_inode + 1) fields.files (omega arith) orderly.below);
     from_one = omega (arith, orderly.from_one);

@@ -27,7 +27,7 @@ module _ (size : ℕ) (history : List HistoryStep) (moment : ℕ) (path owner gr
   by_none : (b : Bool) → put_rule (after history).fields path owner group (length bytes) ≡ None
       → nat_le (journal_length history + 6 + length (written (put_step (after history).fields moment path owner group bytes).step)) size ≡ b
       → answer_in size history moment (PutEvent path owner group bytes)
-        ≡ cond b (put_answer_by None (after history).fields moment path owner group bytes) (record { reply = JournalFull; step = None })
+      ≡ cond b (put_answer_by None (after history).fields moment path owner group bytes) (record { reply = JournalFull; step = None })
   by_none b e room = ap (λ (o : Option Rule). cond (has_room size history (put_answer_by o (after history).fields moment path owner group bytes).step)
       (put_answer_by o (after history).fields moment path owner group bytes) (record { reply = JournalFull; step = None })) e
       ∙ ap (λ (b : Bool). cond b (put_answer_by None (after history).fields moment path owner group bytes) (record { reply = JournalFull; step = None })) room

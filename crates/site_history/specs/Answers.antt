@@ -25,14 +25,20 @@ refused rule = record { reply = Refused rule; step = None }
 -- what a put stores: it takes the lowest free blocks
 abbrev pub put_for : Fields → List ℕ → List ℕ → List ℕ → ℕ → PutOf
 put_for fields path owner group size = record {
-  inode = inode_for fields path; path = path; owner = owner; group = group; length = size;
-  runs = lowest_runs fields.blocks (held_runs fields.files) (blocks_for size) }
+  inode = inode_for fields path;
+  path = path;
+  owner = owner;
+  group = group;
+  length = size;
+  runs = lowest_runs fields.blocks (held_runs fields.files) (blocks_for size);
+}
 
 -- its step
 abbrev pub put_made : Fields → ℕ → List ℕ → List ℕ → List ℕ → ℕ → Step
 put_made fields moment path owner group size = record {
   moment = moment;
-  kind = Put (inode_for fields path) path owner group size (lowest_runs fields.blocks (held_runs fields.files) (blocks_for size)) }
+  kind = Put (inode_for fields path) path owner group size (lowest_runs fields.blocks (held_runs fields.files) (blocks_for size));
+}
 
 abbrev pub put_step : Fields → ℕ → List ℕ → List ℕ → List ℕ → List ℕ → HistoryStep
 put_step fields moment path owner group bytes = record { step = put_made fields moment path owner group (length bytes); bytes = bytes }

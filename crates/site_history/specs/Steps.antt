@@ -38,16 +38,33 @@ no_copies = record { first = Empty; second = Empty; third = Empty; fourth = Empt
 -- generation from then on.
 abbrev pub stored_file : Option FileRec → ℕ → PutOf → FileRec
 stored_file None moment put = record {
-  inode = put.inode; path = put.path; owner = put.owner; group = put.group;
-  modified = moment; accessed = moment; resided = moment; generation = 1;
-  length = put.length; cached = put.length;
-  release = ReleaseKind.Default; partial = 0; stage = StageKind.Default;
-  runs = put.runs; copies = no_copies }
+  inode = put.inode;
+  path = put.path;
+  owner = put.owner;
+  group = put.group;
+  modified = moment;
+  accessed = moment;
+  resided = moment;
+  generation = 1;
+  length = put.length;
+  cached = put.length;
+  release = ReleaseKind.Default;
+  partial = 0;
+  stage = StageKind.Default;
+  runs = put.runs;
+  copies = no_copies;
+}
 stored_file (Some file) moment put = record file {
-  owner = put.owner; group = put.group;
-  modified = moment; accessed = moment; resided = moment; generation = file.generation + 1;
-  length = put.length; cached = put.length;
-  runs = put.runs }
+  owner = put.owner;
+  group = put.group;
+  modified = moment;
+  accessed = moment;
+  resided = moment;
+  generation = file.generation + 1;
+  length = put.length;
+  cached = put.length;
+  runs = put.runs;
+}
 
 -- the inode of a put: that of the file that is there, or the next one
 abbrev pub inode_for : Fields → List ℕ → ℕ
@@ -62,7 +79,8 @@ put_effect moment put fields = record {
   files = with_file (stored_file (file_at put.path fields.files) moment put) fields.files;
   next_inode = next_after fields put.path;
   moment = moment;
-  blocks = fields.blocks }
+  blocks = fields.blocks;
+}
 
 -- what a step changes of the fields; a kind that is not served changes nothing, and is never legal
 abbrev pub fields_after : Step → Fields → Fields

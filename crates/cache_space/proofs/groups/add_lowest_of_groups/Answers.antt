@@ -1,4 +1,4 @@
-use Rattle.std.proofs.Common.{◌≡◌, ℕ, ◌+◌, ◌-◌, ◌*◌, ◌≤◌, min, true, false, List, ◌++◌, length, take, get_or, refl, sym, ◌∙◌, ap, arith}
+use Rattle.std.proofs.Common.{◌≡◌, ◌+◌, ◌-◌, ◌*◌, ◌≤◌, min, ◌++◌, length, take, sym, ◌∙◌, ap, arith}
 use Rattle.cache_space.specs.Blocks.{as_runs}
 use Rattle.cache_space.specs.Flags.{open_blocks}
 use Rattle.cache_space.proofs.GroupLemmas.{left_joined, runs_joined, open_blocks-full}

@@ -1,4 +1,4 @@
-use Rattle.std.proofs.Common.{◌≡◌, ◌+◌, ◌<◌, ◌≤◌, length, drop, vec_len, sym, ap, arith}
+use Rattle.std.proofs.Common.{drop, vec_len, sym, ap, arith}
 use Rattle.std.proofs.lemmas.Bool.{eqb-false}
 use Rattle.std.proofs.lemmas.List.{length-drop}
 use Rattle.records.specs.declared.file.Run.{Run}

@@ -1,4 +1,4 @@
-use Rattle.std.proofs.Common.{◌≤◌, ◌+◌, ◌^◌, drop}
+use Rattle.std.proofs.Common.{◌≤◌, ◌^◌, drop}
 use Rattle.cache_space.specs.Space.{AreMaximal, AreMaximalFrom}
 use Rattle.cache_space.proofs.runs.are_maximal.Given as goal
 

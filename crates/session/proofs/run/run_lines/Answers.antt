@@ -1,4 +1,4 @@
-use Rattle.std.proofs.Common.{inl, ap, ◌∙◌, ℕ, refl}
+use Rattle.std.proofs.Common.{inl, ap, ◌∙◌, ℕ}
 use Rattle.session.specs.Rounds.{first_of}
 use Rattle.session.proofs.Handing.{handed}
 use Rattle.session.proofs.Statuses.{has_status}

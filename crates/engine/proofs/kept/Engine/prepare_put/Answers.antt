@@ -8,9 +8,9 @@ use Rattle.engine.proofs.kept.Engine.prepare_put.Goals as goal
 pub returns-clause-ready : goal.returns-clause-ready
 returns-clause-ready g c = λ fields bytes keeps same rule.
     let made = step_made c.args.self.now.site fields keeps c.args.path.now c.args.owner.now c.args.group.now bytes c.args.size same rule c.args.self.now.clock
-        _ _ _ _ c.in_ok-from_slice.ensures c.in_ok-from_slice-2.ensures c.in_ok-from_slice-3.ensures
-        (c.in_ok-runs.ensures.lowest fields.blocks (held_runs fields.files) keeps.space
-        (enough c.args.self.now.site fields keeps c.args.path.now c.args.owner.now c.args.group.now bytes c.args.size same rule)) in
+    _ _ _ _ c.in_ok-from_slice.ensures c.in_ok-from_slice-2.ensures c.in_ok-from_slice-3.ensures
+    (c.in_ok-runs.ensures.lowest fields.blocks (held_runs fields.files) keeps.space
+    (enough c.args.self.now.site fields keeps c.args.path.now c.args.owner.now c.args.group.now bytes c.args.size same rule)) in
     record {
       admitted = admitted_here c.args.self.now.site fields keeps c.args.path.now c.args.owner.now c.args.group.now bytes c.args.size same rule;
       stored = fields_put fields c.args.self.now.clock c.args.path.now c.args.owner.now c.args.group.now (length bytes) c.put_fields.result _ c.put_fields.ensures made;
