@@ -1,5 +1,5 @@
 -- A put before it is recorded.
-use Rattle.std.proofs.Common.{◌≡◌, ℕ, ◌+◌, ◌<◌, ◌≤◌, ◌^◌, List, [], length, refl, sym, ◌∙◌, ap, subst, arith, None, Bool, true, ◌++◌, Result, Ok, Err, OnOk}
+use Rattle.std.proofs.Common.{◌≡◌, ℕ, ◌<◌, ◌≤◌, ◌^◌, List, [], length, sym, ◌∙◌, ap, subst, arith, None, true, ◌++◌, Result, Ok, Err, OnOk}
 use Rattle.std.specs.List.{AllByRecursion}
 use Rattle.std.proofs.lemmas.Bool.Decides.{nat_tests}
 use Rattle.records.specs.Paths.{is_legal_path, is_legal_name}
@@ -11,13 +11,12 @@ use Rattle.journal.specs.Records.{IsPayload}
 use Rattle.records.proofs.InRange.{in_range}
 use Rattle.records.specs.declared.file.Run.{Run}
 use Rattle.records.specs.declared.step.Step.{Step}
-use Rattle.records.specs.declared.step.StepKind.{StepKind}
 use Rattle.records.specs.declared.step.StepKind.TheVariants.{Put}
 use Rattle.cache_space.specs.Blocks.{blocks_for, free_blocks, lowest_runs}
 use Rattle.site_history.specs.Site.{Fields, held_runs}
 use Rattle.site_history.specs.Steps.{PutOf, inode_for}
 use Rattle.site_history.specs.Answers.{put_rule, put_made, put_for}
-use Rattle.site_history.proofs.Puts.{IsAdmitted, admitted, inode_for-new}
+use Rattle.site_history.proofs.Puts.{admitted, inode_for-new}
 use Rattle.engine.specs.declared.kept.SiteFiles.{SiteFiles}
 use Rattle.engine.specs.declared.put.PutFields.{PutFields}
 use Rattle.engine.specs.Fields.{put_of}

@@ -1,21 +1,19 @@
 -- A put on its way into the journal.
-use Rattle.std.proofs.Common.{◌≡◌, ◌≢◌, ℕ, ◌+◌, ◌<◌, ◌≤◌, ◌^◌, List, [], ◌∷◌, ◌++◌, length, refl, sym, ◌∙◌, ap, subst, arith, Bool, true, false, Option, Some, None, append_assoc}
-use Rattle.std.specs.Prelude.{flat_map}
+use Rattle.std.proofs.Common.{◌≡◌, ℕ, ◌+◌, ◌<◌, ◌≤◌, List, [], ◌∷◌, ◌++◌, length, refl, sym, ◌∙◌, ap, subst, arith, true, false, Option, Some, None, append_assoc}
 use Rattle.std.specs.Option.{option_map_or}
 use Rattle.std.proofs.lemmas.List.{append-nil}
 use Rattle.records.specs.declared.event.Event.TheVariants.{Put as PutEvent}
 use Rattle.records.specs.declared.file.FileRec.{FileRec}
 use Rattle.records.specs.declared.file.Run.{Run}
-use Rattle.records.specs.declared.reply.Reply.{Reply}
 use Rattle.records.specs.declared.reply.Reply.TheVariants.{Stored, JournalFull, BankFault}
 use Rattle.records.specs.Written.{written}
 use Rattle.cache_space.specs.Space.{taken_by}
 use Rattle.journal.specs.State.{JournalState}
-use Rattle.site_history.specs.Site.{Fields, Site, held_runs, file_at, with_file}
-use Rattle.site_history.specs.Steps.{HistoryStep, PutOf, stored_file, next_after, put_effect, effect}
-use Rattle.site_history.specs.Histories.{after, IsHistory, journal_length}
-use Rattle.site_history.specs.Answers.{Answer, put_rule, put_step, put_made, put_for, put_answer_by}
-use Rattle.site_history.specs.Worlds.{World, at, site_of, Course, Goes, Stays, Owes, course_of, answer_in, with_step, TurnBy}
+use Rattle.site_history.specs.Site.{Site, held_runs, file_at, with_file}
+use Rattle.site_history.specs.Steps.{HistoryStep, PutOf, stored_file, next_after, put_effect}
+use Rattle.site_history.specs.Histories.{after, journal_length}
+use Rattle.site_history.specs.Answers.{Answer, put_step, put_made, put_for, put_answer_by}
+use Rattle.site_history.specs.Worlds.{World, at, site_of, Goes, course_of, answer_in, with_step, TurnBy}
 use Rattle.site_history.proofs.HistoryLaws.{after-push, history-push, journal_length-push, length-push}
 use Rattle.site_history.proofs.FileLaws.{AreBelow, with_file-new}
 use Rattle.site_history.proofs.SiteLaws.{orderly}

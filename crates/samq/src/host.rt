@@ -43,10 +43,18 @@ fn words(rt: &HostRuntime) -> io::Result<Vec<String>> {
     Ok(words)
 }
 
+// Brings the list of a folder's names to the medium, and tells whether that succeeded.
+fn is_synced(rt: &HostRuntime, folder: &str) -> bool {
+    match fs::open(rt, folder) {
+        Ok(file) => file.sync_all().is_ok(),
+        Err(_) => false,
+    }
+}
+
 // Opens the store in the folder `bank` of a folder; both are made if they are not there.
 fn open_bank(rt: &HostRuntime, folder: &str) -> Result<FileBank<HostRuntime>, Refusal> {
     let path = format!(in rt.alloc(); "{folder}/bank")?;
-    if fs::create_dir_all(rt, path.as_str()).is_err() {
+    if fs::create_dir_all(rt, path.as_str()).is_err() || !is_synced(rt, folder) {
         return Err(Refusal::Failed);
     }
     Ok(FileBank::open(rt.clone()?, rt.alloc(), path.as_str())?)

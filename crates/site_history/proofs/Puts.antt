@@ -1,13 +1,12 @@
 -- A put that no rule refuses is legal.
-use Rattle.std.proofs.Common.{◌≡◌, ℕ, ◌+◌, ◌<◌, ◌≤◌, List, length, refl, sym, ◌∙◌, ap, subst, arith, Bool, true, false, cond, Option, Some, None}
+use Rattle.std.proofs.Common.{◌≡◌, ℕ, ◌<◌, ◌≤◌, List, length, refl, sym, ap, subst, arith, Bool, true, false, cond, Option, Some, None}
 use Rattle.std.specs.Prelude.{is_some, ◌&&◌, ◌||◌, not, nat_le, nat_lt, MatchOption}
 use Rattle.std.specs.Option.{option_map_or}
 use Rattle.std.proofs.lemmas.Bool.Decides.{nat_tests}
 use Rattle.records.specs.declared.file.FileRec.{FileRec}
-use Rattle.records.specs.declared.reply.Rule.{Rule}
 use Rattle.records.specs.declared.reply.Rule.TheVariants.{BadPath, BadAttribute, Exists, TooLarge, TooMany, NoSpace}
 use Rattle.records.specs.Paths.{is_legal_path, is_legal_name}
-use Rattle.cache_space.specs.Blocks.{blocks_for, free_blocks, lowest_runs}
+use Rattle.cache_space.specs.Blocks.{blocks_for, free_blocks}
 use Rattle.cache_space.proofs.LowestRuns.{lowest_runs-maximal, lowest_runs-free, blocks_in-lowest_runs}
 use Rattle.site_history.specs.Site.{Fields, file_at, held_runs}
 use Rattle.site_history.specs.Steps.{IsLegal, inode_for}

@@ -1,15 +1,13 @@
 -- What holds of the site after any history.
-use Rattle.std.proofs.Common.{◌≡◌, ℕ, ◌+◌, ◌<◌, ◌≤◌, List, [], ◌∷◌, length, refl, sym, ◌∙◌, ap, subst, arith, Bool, true, false, cond, Option, Some, None}
-use Rattle.std.specs.Prelude.{find, MatchOption}
+use Rattle.std.proofs.Common.{◌≡◌, ℕ, ◌+◌, ◌<◌, ◌≤◌, List, [], ◌∷◌, length, refl, subst, arith, Bool, true, false, cond, Option, Some, None}
+use Rattle.std.specs.Prelude.{MatchOption}
 use Rattle.std.specs.Option.{option_map_or}
 use Rattle.std.specs.Str.{bytes_eq}
-use Rattle.std.specs.List.{AllByRecursion}
 use Rattle.records.specs.declared.file.FileRec.{FileRec}
-use Rattle.records.specs.declared.step.Step.{Step}
 use Rattle.records.specs.declared.step.StepKind.{StepKind}
 use Rattle.records.specs.declared.step.StepKind.TheVariants.{Put}
 use Rattle.site_history.specs.Site.{Fields, Site, first_site, file_at, with_file}
-use Rattle.site_history.specs.Steps.{HistoryStep, PutOf, stored_file, inode_for, next_after, put_effect, fields_after, IsLegalPut, IsLegal, effect}
+use Rattle.site_history.specs.Steps.{HistoryStep, PutOf, stored_file, put_effect, fields_after, IsLegalPut, IsLegal}
 use Rattle.site_history.specs.Histories.{after, IsHistory}
 use Rattle.site_history.proofs.HistoryLaws.{history-keeps}
 use Rattle.site_history.proofs.FileLaws.{AreBelow, are_below-more, are_below-with}

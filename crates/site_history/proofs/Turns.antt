@@ -1,15 +1,14 @@
 -- What is answered to a put.
-use Rattle.std.proofs.Common.{◌≡◌, ℕ, ◌+◌, ◌<◌, ◌≤◌, List, [], ◌∷◌, length, refl, sym, ◌∙◌, ap, subst, arith, Bool, true, false, cond, Option, Some, None}
-use Rattle.std.specs.Prelude.{nat_le, is_some, ◌&&◌, not}
-use Rattle.std.proofs.lemmas.Bool.{leb-true, leb-false}
+use Rattle.std.proofs.Common.{◌≡◌, ℕ, ◌+◌, ◌<◌, ◌≤◌, List, length, ◌∙◌, ap, arith, Bool, true, false, cond, Option, Some, None}
+use Rattle.std.specs.Prelude.{nat_le}
 use Rattle.records.specs.declared.event.Event.TheVariants.{Put as PutEvent}
-use Rattle.records.specs.declared.reply.Reply.TheVariants.{Stored, JournalFull}
+use Rattle.records.specs.declared.reply.Reply.TheVariants.{JournalFull}
 use Rattle.records.specs.declared.reply.Rule.{Rule}
 use Rattle.records.specs.Written.{written}
-use Rattle.site_history.specs.Site.{Fields, file_at}
+use Rattle.site_history.specs.Site.{Fields}
 use Rattle.site_history.specs.Steps.{HistoryStep}
 use Rattle.site_history.specs.Histories.{after, journal_length}
-use Rattle.site_history.specs.Answers.{Answer, refused, put_rule, put_step, put_answer_by, answer_to}
+use Rattle.site_history.specs.Answers.{Answer, refused, put_rule, put_step, put_answer_by}
 use Rattle.site_history.specs.Worlds.{has_room, answer_in}
 
 module _ (size : ℕ) (history : List HistoryStep) (moment : ℕ) (path owner group bytes : List ℕ) where

@@ -3,3 +3,4 @@ pub mod Steps
 pub mod Histories
 pub mod Answers
 pub mod Worlds
+pub mod Images
