@@ -1,0 +1,12 @@
+use Rattle.std.proofs.Common.{◌∙◌, sym, ap}
+use Rattle.std.specs.Prelude.{nat_lt, length}
+use Rattle.cache_space.specs.Blocks.{free_blocks, lowest_runs}
+use Rattle.site_history.specs.Site.{held_runs}
+use Rattle.plain_session.proofs.Runs.{lacking}
+use Rattle.plain_session.proofs.rule.lacks_space.Goals as goal
+
+pub returns : goal.returns
+returns c =
+    lacking c.args.world.now.blocks (held_runs c.args.world.now.files) c.blocks_needed.result c.as_slice.result.now c.have_blocks.result
+    (c.as_slice.ensures ∙ c.in_ok-runs.ensures ∙ ap (λ n. lowest_runs c.args.world.now.blocks (held_runs c.args.world.now.files) n) (sym c.blocks_needed.ensures)) c.have_blocks.ensures
+    ∙ ap (λ n. nat_lt (length (free_blocks c.args.world.now.blocks (held_runs c.args.world.now.files))) n) c.blocks_needed.ensures
