@@ -11,8 +11,9 @@ use site_text::List;
 use std::alloc::{AllocError, Global};
 use std::marker::Model;
 
-/// The blocks of the cache, from 0 on, each taken or free. Contracts see for each whether it is
-/// taken. It keeps the allocator that its constructor was given.
+/// The blocks of the cache, 4,096 bytes each, numbered from 0 on, each taken or free. Contracts see
+/// for each whether it is taken. It keeps the allocator that its constructor was given, and only
+/// `new` and `lowest` take memory.
 #[derive(Drop)]
 pub struct CacheSpace {
     taken: Vec<bool>,
@@ -32,7 +33,7 @@ impl Model for CacheSpace {
 }
 
 impl CacheSpace {
-    /// So many blocks, all free.
+    /// So many blocks, all free. They take a byte of memory each; the only error is want of it.
     pub fn new(alloc: Global, blocks: u32) -> Result<Self, AllocError>
         ensures { IfOk result (λ space. space ≡ taken_by blocks []) }
     {
@@ -60,8 +61,8 @@ impl CacheSpace {
         self.free
     }
 
-    /// The lowest free blocks that none of the runs `but` has, as maximal runs. Where there are
-    /// fewer than are wanted it answers NoSpace, and never NoMemory.
+    /// The lowest so many free blocks that none of the runs `but` has, as maximal runs in ascending
+    /// order. Where there are fewer it answers NoSpace, and never NoMemory.
     pub fn lowest(&self, blocks: u32, but: &[Run]) -> Result<List<Run>, SpaceRefusal>
         ensures lowest { (total : ℕ) (held : Seq Run) → self.now ≡ taken_by total held
             → IfOk result (λ runs. runs ≡ lowest_runs total (held ++ but.now) blocks) }

@@ -1,1 +1,17 @@
 pub mod Causes
+pub mod Faults
+pub mod Lines
+pub mod Texts
+pub mod Numbers
+pub mod Ages
+pub mod Sizes
+pub mod Weights
+pub mod Fields
+pub mod Words
+pub mod ValueLines
+pub mod Values
+pub mod Forms
+pub mod Options
+pub mod Files
+pub mod Kinds
+pub mod Directives

@@ -1,0 +1,9 @@
+pub mod Cuts
+pub mod Joins
+pub mod Digits
+pub mod Groups
+pub mod FormLaws
+pub mod OptionSteps
+pub mod OptionLaws
+pub mod FileLaws
+pub mod FileMeaning

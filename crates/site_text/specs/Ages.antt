@@ -1,0 +1,50 @@
+-- Ages: groups of 1 to 12 digits and a suffix `s`, `m`, `h`, `d`, `w` or `y`; the last group may have no suffix.
+use Rattle.std.specs.Prelude.{ℕ, ◌+◌, ◌-◌, ◌*◌, ◌^◌, List, [], ◌∷◌, length, take, Option, Some, None, Result, Bool, ◌==◌, is_some, if◌then◌else◌, option_map, slice_index, min}
+use Rattle.std.specs.List.{onto_first}
+use Rattle.site_text.specs.declared.refusal.TextRefusal.{TextRefusal}
+use Rattle.site_text.specs.declared.refusal.TextRefusal.TheVariants.{BadAge}
+use Rattle.site_text.specs.Numbers.{number_in, below}
+
+-- the seconds of a suffix
+abbrev pub unit_of : ℕ → Option ℕ
+unit_of b =
+    if b == 115 then Some 1 else if b == 109 then Some 60 else if b == 104 then Some 3600
+    else if b == 100 then Some 86400 else if b == 119 then Some 604800 else if b == 121 then Some 31536000 else None
+
+abbrev pub is_unit : ℕ → Bool
+is_unit b = is_some (unit_of b)
+
+-- a field, cut behind each suffix
+unfoldable pub groups_of : List ℕ → List (List ℕ)
+groups_of [] = []
+groups_of (b ∷ bs) = if is_unit b then (b ∷ []) ∷ groups_of bs else onto_first b (groups_of bs)
+
+-- the seconds of a group: its digits stand before its suffix, and where it has none they are seconds
+unfoldable pub group_seconds : List ℕ → Option ℕ
+group_seconds group = by_suffix (unit_of (slice_index group (length group - 1)))
+  where
+    by_suffix : Option ℕ → Option ℕ
+    by_suffix (Some unit) = option_map (λ n. n * unit) (number_in 12 (take (length group - 1) group))
+    by_suffix None = number_in 12 group
+
+abbrev pub plus : Option ℕ → Option ℕ → Option ℕ
+plus (Some m) (Some n) = Some (m + n)
+plus (Some m) None = None
+plus None n = None
+
+-- the seconds of all groups, where each has some
+unfoldable pub sum_of : List (List ℕ) → Option ℕ
+sum_of [] = Some 0
+sum_of (group ∷ more) = plus (group_seconds group) (sum_of more)
+
+abbrev pub age_in_seconds : List ℕ → Option ℕ
+age_in_seconds [] = None
+age_in_seconds (b ∷ bs) = sum_of (groups_of (b ∷ bs))
+
+abbrev pub age_of : List ℕ → Result ℕ TextRefusal
+age_of field = below BadAge (2 ^ 40) (age_in_seconds field)
+
+-- seconds, as far as they are kept while they are added up
+abbrev pub capped : Option ℕ → Option ℕ
+capped (Some n) = Some (min n (2 ^ 40))
+capped None = None

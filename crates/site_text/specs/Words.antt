@@ -1,0 +1,27 @@
+-- Words and what they stand for.
+use Rattle.std.specs.Prelude.{List, [], ◌∷◌, Option, Some, None, Bool, ◌==◌, if◌then◌else◌, slice_index}
+use Rattle.std.specs.Str.{bytes_eq}
+use Rattle.site_text.specs.declared.fault.ConfFault.{ConfFault}
+use Rattle.site_text.specs.declared.fault.ConfFault.TheVariants.{UnknownDirective, ExtraField, BadValue}
+use Rattle.site_text.specs.Fields.{Field, Read, wanted}
+
+-- what a word stands for in a table
+abbrev pub named : {D : Type 0} → List (Field × D) → Field → Option D
+named [] word = None
+named (entry ∷ entries) word = if bytes_eq word entry.0 then Some entry.1 else named entries word
+
+-- it begins with `-`
+abbrev pub is_option : Field → Bool
+is_option field = slice_index field 0 == 45
+
+-- what is wrong with a field that is none of the options that may stand there
+abbrev pub no_option : Field → ConfFault
+no_option field = if is_option field then UnknownDirective else ExtraField
+
+-- the option of a field
+abbrev pub option_named : {D : Type 0} → List (Field × D) → Field → Read D
+option_named table field = wanted (named table field) (no_option field)
+
+-- the value of a field that is one of some words
+abbrev pub word_value : {D : Type 0} → List (Field × D) → Field → Read D
+word_value table field = wanted (named table field) BadValue
