@@ -1,4 +1,0 @@
-pub mod Finds
-pub mod Preparing
-pub mod Recording
-pub mod Space

@@ -1,3 +1,3 @@
 pub mod StandsFor
-pub mod Fields
-pub mod Ready
+pub mod Journals
+pub mod Inside

@@ -1,11 +1,10 @@
-//! A site over a store: each event is answered, and what it changes is journalled.
+//! A site over a store: it is reopened from its journal, each event is answered, and what it changes is journalled.
 #![tactic(auto)]
 
-mod data;
 mod engine;
 mod files;
 mod kept;
-mod put;
 
 pub use engine::{Shut, ShutCause};
+pub use files::Files;
 pub use kept::{Engine, SiteFiles};
