@@ -83,9 +83,10 @@ impl<B: Bank, P: Drop> Engine<B, P> {
         ensures moment { IsTrue B.tells → (B.view self.old.bank).moment ≤ (B.view self.new.bank).moment }
     {
         let _ = event;
-        if !self.due {
-            self.clock = self.clock.max(now.min(LAST_MOMENT));
+        if self.due {
+            return Reply::NoMemory;
         }
+        self.clock = self.clock.max(now.min(LAST_MOMENT));
         Reply::NoMemory
     }
 
