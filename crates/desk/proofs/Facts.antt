@@ -1,11 +1,11 @@
 -- What a caller may want to know of lines and answers without opening their definitions.
 use Rattle.std.proofs.Common.{◌≡◌, ℕ, ◌<◌, false, List, length, Err, arith}
 use Rattle.std.proofs.lemmas.Grind.{common_steps}
-use Rattle.records.specs.declared.reply.LineRefusal.TheVariants.{NotACommand}
+use Rattle.records.specs.declared.reply.LineRefusal.TheVariants.{LineTooLong}
 use Rattle.desk.specs.Asks.{asked_of, is_skipped}
 
--- a line of over 4,096 bytes is no command, whatever its bytes
-pub asked_of-long : (line : List ℕ) → 4096 < length line → asked_of line ≡ Err NotACommand
+-- a line of over 4,096 bytes is too long, whatever its bytes
+pub asked_of-long : (line : List ℕ) → 4096 < length line → asked_of line ≡ Err LineTooLong
 unfolding asked_of
 asked_of-long line long = grind (arith, common_steps)
 

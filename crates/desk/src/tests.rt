@@ -198,21 +198,121 @@ fn puts_are_read(rt: HostRuntime) {
     }
 }
 
-#[test]
-fn other_lines(rt: HostRuntime) {
-    for line in [
-        b"frob".as_slice(),
-        b"put",
-        b"put /a u",
-        b"puts /a u g",
-        b"Put /a u g",
-    ] {
-        let refused = matches!(read_line(rt.alloc(), line), Err(LineRefusal::NotACommand));
-        assert!(rt; refused);
-        assert!(rt; !is_skipped(line));
+fn refused_word(alloc: Global, line: &[u8]) -> u32 {
+    match read_line(alloc, line) {
+        Err(LineRefusal::NotACommand) => 1,
+        Err(LineRefusal::BadWord(number)) => number,
+        _ => 0,
     }
+}
+
+#[test]
+fn refused_lines(rt: HostRuntime) {
+    let table = [
+        (b"frob".as_slice(), 1),
+        (b"Put /a u g", 1),
+        (b"rm", 2),
+        (b"rm /a /b", 3),
+        (b"put /a u", 4),
+        (b"at 1099511627776", 2),
+        (b"at 000000000000000000001", 2),
+        (b"at 5s", 2),
+        (b"head /a 16777217", 3),
+        (b"make /a u g 1024T 1", 5),
+        (b"make /a u g 8kk 1", 5),
+        (b"make /a u g 8 1234567890", 6),
+        (b"make /a u g 8 1 x", 7),
+        (b"configure now", 2),
+    ];
+    for (line, number) in table {
+        assert!(rt; refused_word(rt.alloc(), line) == number);
+    }
+}
+
+#[test]
+fn skipped_lines(rt: HostRuntime) {
     for line in [b"".as_slice(), b" \t", b"#", b"# put /a u g"] {
         assert!(rt; is_skipped(line));
     }
     assert!(rt; !is_skipped(b" # x"));
+    let long = [b' '; 4097];
+    assert!(rt; !is_skipped(&long));
+    let refused = matches!(read_line(rt.alloc(), &long), Err(LineRefusal::LineTooLong));
+    assert!(rt; refused);
+}
+
+fn asks(alloc: Global, line: &[u8], wanted: &Asked) -> bool {
+    match (read_line(alloc, line), wanted) {
+        (Ok(Asked::At(moment)), Asked::At(at)) => moment == *at,
+        (Ok(Asked::Configure), Asked::Configure) => true,
+        (Ok(Asked::One(asked)), Asked::One(event)) => is_same(&asked, event),
+        _ => false,
+    }
+}
+
+fn is_same(asked: &Event, event: &Event) -> bool {
+    match (asked, event) {
+        (
+            Event::Read { path, upto },
+            Event::Read {
+                path: of,
+                upto: most,
+            },
+        ) => { path.as_slice() == of.as_slice() && upto == most }
+        (Event::Remove { path }, Event::Remove { path: of }) => path.as_slice() == of.as_slice(),
+        _ => false,
+    }
+}
+
+#[test]
+fn other_lines(rt: HostRuntime) -> Result<(), AllocError> {
+    let alloc = rt.alloc();
+    let table = [
+        (
+            b"at 00000001099511627775".as_slice(),
+            Asked::At(1099511627775),
+        ),
+        (b"configure", Asked::Configure),
+        (
+            b" cat  /a ",
+            Asked::One(Event::Read {
+                path: bytes(alloc, b"/a")?,
+                upto: 16777216,
+            }),
+        ),
+        (
+            b"head /a 0",
+            Asked::One(Event::Read {
+                path: bytes(alloc, b"/a")?,
+                upto: 0,
+            }),
+        ),
+        (
+            b"rm\t/a",
+            Asked::One(Event::Remove {
+                path: bytes(alloc, b"/a")?,
+            }),
+        ),
+    ];
+    for (line, wanted) in &table {
+        assert!(rt; asks(alloc, line, wanted));
+    }
+    Ok(())
+}
+
+#[test]
+fn made_files(rt: HostRuntime) {
+    let table = [
+        (
+            b"make /a u g 4 254".as_slice(),
+            b"\xfe\xff\x00\x01".as_slice(),
+        ),
+        (b"make /a u g 0 1", b""),
+    ];
+    for (line, text) in table {
+        match read_line(rt.alloc(), line) {
+            Ok(asked) => assert!(rt; is_put(&asked, text)),
+            Err(_) => assert!(rt; false),
+        }
+    }
 }
