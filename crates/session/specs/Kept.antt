@@ -1,0 +1,23 @@
+-- What a crash at any moment leaves.
+use Rattle.std.specs.Prelude.{◌⊎◌, ◌≤◌, ℕ, List, [], ◌∷◌}
+use Rattle.bank.specs.Content.{Image}
+use Rattle.bank.specs.View.{View}
+use Rattle.site_history.specs.Steps.{HistoryStep}
+use Rattle.site_history.specs.Worlds.{World}
+use Rattle.site_history.specs.Images.{ReadsAs, ReadsNear}
+use Rattle.session.specs.Rounds.{Round}
+
+-- From a moment on, from a world on: an image that a crash left while a round was in hand reads as the world before it or as
+-- the one after it, each as its history or as that with the step which it owes; any other is one since the round's end. And
+-- so on; behind the last round an image reads as the last world.
+abbrev pub AreKept : ℕ → View → ℕ → World → List Round → Type 0
+AreKept size v from w [] = (c : Image) → v.left_since from c → ReadsAs size w c
+AreKept size v from w (round ∷ rounds) =
+    ((c : Image) → v.left_since from c → v.left_since round.moment c ⊎ (ReadsAs size w c ⊎ ReadsAs size round.after.world c))
+    × AreKept size v round.moment round.after.world rounds
+
+-- An image that a crash left while the store was opened is one of those from before, which read nearly as the history that the
+-- store was settled for; any other is one since it was open.
+pub record IsOpening (size : ℕ) (v : View) (from opened : ℕ) (before : List HistoryStep) : Type 0 where
+  pub later : from ≤ opened
+  pub images : (c : Image) → v.left_since from c → v.left_since opened c ⊎ ReadsNear size before c
