@@ -10,11 +10,11 @@ use Rattle.site_history.specs.Site.{Site}
 use Rattle.site_history.specs.Steps.{HistoryStep, effect, IsLegal, HasBytes}
 use Rattle.site_history.specs.Histories.{after, IsHistory}
 use Rattle.site_history.specs.Images.{extents, AllStand, written_forms, Reads}
-use Rattle.site_history.specs.Pinned.{StandInAll, IsPinned}
+use Rattle.site_history.specs.Pinned.{StandInAll, IsPinned, put_extents}
 use Rattle.site_history.proofs.HistoryLaws.{after-push, history-push}
 use Rattle.site_history.proofs.Extents.{site_in_cache, stand_along, others_image}
 use Rattle.site_history.proofs.DistinctInodes.{distinct_inodes}
-use Rattle.site_history.proofs.StepExtents.{put_extents, effect_stands}
+use Rattle.site_history.proofs.StepExtents.{effect_stands}
 
 -- The written forms of a history and one step more.
 pub written_forms-push : (steps : List HistoryStep) (made : HistoryStep) → written_forms (steps ++ made ∷ []) ≡ written_forms steps ++ written made.step ∷ []

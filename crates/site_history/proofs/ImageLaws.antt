@@ -1,7 +1,7 @@
 -- What images read as: where each of them reads as one history, and where two of them agree.
 use Rattle.std.proofs.Common.{◌≡◌, ℕ, ◌+◌, ◌-◌, ◌<◌, ◌≤◌, Bool, true, false, cond, ◌==◌, List, [], ◌∷◌, length, refl, sym, ◌∙◌, ap, subst, arith}
 use Rattle.std.proofs.lemmas.Bool.{eq-eqb, eqb-true}
-use Rattle.bank.specs.Content.{Content, Image, Stands}
+use Rattle.bank.specs.Content.{Content, Image, Stands, Same}
 use Rattle.bank.specs.View.{View, IsImage, IsSound}
 use Rattle.bank.proofs.Spans.{Stands-same}
 use Rattle.journal.proofs.RecordLaws.{holds-same}
@@ -71,3 +71,16 @@ agreeing_read size c d steps agree h = record {
   records = holds-same (c 0) (d 0) 0 (written_forms steps) size (λ k le. sym (agree.0 k)) h.records;
   bytes = same_stand c d (extents (after steps)) agree.1 h.bytes;
 }
+
+-- Images with the same bytes everywhere are the same at each extent, and read as the same histories.
+pub same_everywhere : (c d : Image) (es : List Extent) → ((a : ℕ) → Same (c a) (d a)) → SameAt c d es
+same_everywhere c d [] same = tt
+same_everywhere c d (e ∷ es) same = ((λ k lt. sym (same e.area (e.place + k))), same_everywhere c d es same)
+
+pub same_read : (size : ℕ) (c d : Image) (steps : List HistoryStep) → ((a : ℕ) → Same (c a) (d a)) → Reads size c steps → Reads size d steps
+same_read size c d steps same reads = agreeing_read size c d steps (same 0, same_everywhere c d (extents (after steps)) same) reads
+
+-- What stands in whatever a crash leaves still does where it leaves nothing else.
+pub stand_in_fewer : (u v : View) (es : List Extent) → ((a : ℕ) (c : Content) → v.may_leave a c → u.may_leave a c) → StandInAll u es → StandInAll v es
+stand_in_fewer u v [] fewer h = tt
+stand_in_fewer u v (e ∷ es) fewer h = ((λ c left. h.0 c (fewer e.area c left)), stand_in_fewer u v es fewer h.1)

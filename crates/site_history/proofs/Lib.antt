@@ -8,3 +8,5 @@ pub mod DistinctInodes
 pub mod Commits
 pub mod JournalLaws
 pub mod Reopenings
+pub mod Storing
+pub mod FileReads

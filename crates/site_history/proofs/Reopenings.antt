@@ -12,7 +12,7 @@ use Rattle.site_history.specs.Histories.{after, IsHistory}
 use Rattle.site_history.specs.Worlds.{World, IsReopened}
 use Rattle.site_history.specs.Images.{Extent, extents, written_forms, Reads, ReadsNear, IsSettled, ReadsAs, IsSettledAs, SameAt}
 use Rattle.site_history.specs.Pinned.{IsPinned}
-use Rattle.site_history.proofs.ImageLaws.{agreeing_read, pinned_by_images}
+use Rattle.site_history.proofs.ImageLaws.{same_read, stand_in_fewer}
 
 -- A history with one step more has other written forms.
 longer : (steps : List HistoryStep) (made : HistoryStep) → written_forms steps ≡ written_forms (steps ++ made ∷ []) → ⊥
@@ -27,14 +27,6 @@ longer steps made e = omega (
 -- One value is owed.
 one_owed : {A : Type 0} (o : Option A) (x y : A) → o ≡ Some x → o ≡ Some y → x ≡ y
 one_owed o x y e f = let both : Some x ≡ Some y = sym e ∙ f in cc
-
-same_everywhere : (c d : Image) (es : List Extent) → ((a : ℕ) → Same (c a) (d a)) → SameAt c d es
-same_everywhere c d [] same = tt
-same_everywhere c d (e ∷ es) same = ((λ k lt. sym (same e.area (e.place + k))), same_everywhere c d es same)
-
--- Images with the same bytes everywhere read as the same histories.
-pub same_read : (size : ℕ) (c d : Image) (steps : List HistoryStep) → ((a : ℕ) → Same (c a) (d a)) → Reads size c steps → Reads size d steps
-same_read size c d steps same reads = agreeing_read size c d steps (same 0, same_everywhere c d (extents (after steps)) same) reads
 
 module _ (size : ℕ) (v : View) (only : OnlyContent 0 v) (payloads : List (List ℕ)) (read : HoldsRecords (v.content 0) 0 payloads size) where
   -- The payloads that were read are the written forms of each history that an image reads as.
@@ -97,9 +89,12 @@ settled_after_reading size u v steps h settled = record {
   each = λ c image. settled.each c (λ a. h.images a (c a) (image a));
 }
 
--- And pinned.
-pub pinned_after_reading : (size : ℕ) (u v : View) (steps : List HistoryStep) → IsSound u → IsSound v → OnlyRead u v → ((c : Image) → IsImage u c → Reads size c steps) → IsPinned size v steps
-pinned_after_reading size u v steps sound sound_then h reads = pinned_by_images size v steps sound_then (λ c image. reads c (λ a. h.images a (c a) (image a)))
+-- They leave it pinned.
+pub pinned_after_reading : (size : ℕ) (u v : View) (steps : List HistoryStep) → OnlyRead u v → IsPinned size u steps → IsPinned size v steps
+pinned_after_reading size u v steps h pinned = record {
+  records = record { each = λ c left. pinned.records.each c (h.images 0 c left) };
+  bytes = stand_in_fewer u v (extents (after steps)) h.images pinned.bytes;
+}
 
 module _ (size : ℕ) (v : View) (before : List HistoryStep) (settled : IsSettled size v before) (only : OnlyContent 0 v) (payloads : List (List ℕ)) (read : HoldsRecords (v.content 0) 0 payloads size) where
   settled_forms : payloads ≡ written_forms before
