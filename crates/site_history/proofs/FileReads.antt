@@ -1,5 +1,5 @@
 -- The bytes of a file are read run by run.
-use Rattle.std.proofs.Common.{◌≡◌, ◌⊎◌, inl, inr, ⊎_elim, ℕ, zero, suc, ◌+◌, ◌-◌, ◌*◌, ◌<◌, ◌≤◌, List, [], ◌∷◌, ◌++◌, length, take, drop, get_or, min, refl, sym, ◌∙◌, ap, subst, arith, append-nil, take-take, length-take, length-drop}
+use Rattle.std.proofs.Common.{◌≡◌, inl, inr, ℕ, zero, suc, ◌+◌, ◌-◌, ◌*◌, ◌<◌, ◌≤◌, List, [], ◌∷◌, ◌++◌, length, take, drop, get_or, min, sym, ◌∙◌, ap, subst, arith, append-nil, take-take, length-take, length-drop}
 use Rattle.std.specs.Prelude.{flat_map}
 use Rattle.std.proofs.lemmas.List.{take_all, take_more, length-take-le, take-append-drop, nil_from_length}
 use Rattle.std.proofs.lemmas.Bool.{cases_lt}
@@ -11,7 +11,7 @@ use Rattle.bank.proofs.Spans.{Stands-front, Stands-only}
 use Rattle.records.specs.declared.file.FileRec.{FileRec}
 use Rattle.records.specs.declared.file.Run.{Run}
 use Rattle.cache_space.specs.Space.{blocks_in}
-use Rattle.site_history.specs.Site.{FileBytes, Site, bytes_of}
+use Rattle.site_history.specs.Site.{FileBytes, bytes_of}
 use Rattle.site_history.specs.Steps.{HistoryStep}
 use Rattle.site_history.specs.Histories.{after}
 use Rattle.site_history.specs.Images.{Extent, extents_over, extents_of, extents, AllStand}

@@ -1,18 +1,15 @@
 -- The bytes of a site still stand after each step.
-use Rattle.std.proofs.Common.{◌≡◌, ◌≢◌, ◌⊎◌, inl, inr, ℕ, ◌+◌, ◌≤◌, ◌<◌, Bool, true, false, not, cond, ◌==◌, List, [], ◌∷◌, ◌++◌, length, take, map, filter, Option, Some, None, refl, sym, ◌∙◌, ap, subst, arith}
-use Rattle.std.specs.Prelude.{flat_map, MatchOption}
+use Rattle.std.proofs.Common.{◌≡◌, inl, inr, ℕ, Bool, true, false, not, cond, ◌==◌, List, [], ◌∷◌, length, take, map, Option, Some, None, refl, sym, ◌∙◌, ap, subst, arith}
+use Rattle.std.specs.Prelude.{flat_map}
 use Rattle.std.specs.Option.{option_map_or}
-use Rattle.std.specs.List.{AllByRecursion}
 use Rattle.std.proofs.lemmas.Bool.{cases_eq, eq-eqb, ne_eqb}
 use Rattle.std.proofs.lemmas.List.{take_all}
 use Rattle.bank.specs.View.{View}
 use Rattle.records.specs.declared.file.FileRec.{FileRec}
-use Rattle.records.specs.declared.file.Run.{Run}
-use Rattle.records.specs.declared.step.Step.{Step}
 use Rattle.records.specs.declared.step.StepKind.{StepKind}
 use Rattle.records.specs.declared.step.StepKind.TheVariants.{Put, Accessed, Removed}
-use Rattle.site_history.specs.Site.{Fields, FileBytes, Site, file_at, with_file, with_bytes, bytes_of}
-use Rattle.site_history.specs.Steps.{HistoryStep, PutOf, stored_file, inode_for, accessed_by, without_file, without_bytes, put_effect, effect, IsLegalPut, IsLegal, HasBytes}
+use Rattle.site_history.specs.Site.{FileBytes, Site, file_at, with_file, with_bytes, bytes_of}
+use Rattle.site_history.specs.Steps.{HistoryStep, PutOf, stored_file, inode_for, accessed_by, without_file, without_bytes, put_effect, effect, IsLegal, HasBytes}
 use Rattle.site_history.specs.Images.{Extent, extents_over, extents_of, extents}
 use Rattle.site_history.specs.Pinned.{StandInAll, put_extents}
 use Rattle.site_history.proofs.Extents.{stand_append, stand_front, stand_back}

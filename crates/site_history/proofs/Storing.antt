@@ -1,14 +1,14 @@
 -- The bytes of a put are written run by run.
-use Rattle.std.proofs.Common.{◌≡◌, ◌⊎◌, inl, inr, ⊎_elim, ℕ, zero, suc, ◌+◌, ◌*◌, ◌/◌, ◌<◌, ◌≤◌, Bool, true, false, ◌||◌, List, [], ◌∷◌, ◌++◌, length, take, drop, get_or, min, refl, sym, ◌∙◌, ap, subst, arith, drop-drop}
-use Rattle.std.proofs.lemmas.Bool.{cases_lt, both_ways, or_left, or_right, false_from_ne_true}
+use Rattle.std.proofs.Common.{◌≡◌, inl, inr, ⊎_elim, ℕ, zero, suc, ◌+◌, ◌*◌, ◌/◌, ◌<◌, ◌≤◌, Bool, true, false, ◌||◌, List, [], ◌∷◌, ◌++◌, length, take, drop, get_or, min, refl, sym, ◌∙◌, ap, subst, arith, drop-drop}
+use Rattle.std.proofs.lemmas.Bool.{cases_lt, both_ways, or_left, false_from_ne_true}
 use Rattle.std.proofs.lemmas.List.{take_more, take_min, take_all, drop_min, drop_all}
 use Rattle.std.proofs.lemmas.List.Sums.{sum_by-append}
 use Rattle.std.proofs.lemmas.List.Folds.{list_any_at}
-use Rattle.bank.specs.Content.{Content, Image, Stands}
-use Rattle.bank.specs.View.{View, IsSound, OnlyContent, Unchanged, Touches, Wrote}
+use Rattle.bank.specs.Content.{Image, Stands}
+use Rattle.bank.specs.View.{View, IsSound, OnlyContent, Unchanged, Touches}
 use Rattle.bank.specs.Inside.{WroteInside}
 use Rattle.bank.proofs.Writes.{wrote}
-use Rattle.bank.proofs.Inside.{IsRangeInside, wrote_inside, inside_then}
+use Rattle.bank.proofs.Inside.{IsRangeInside, wrote_inside}
 use Rattle.records.specs.declared.file.Run.{Run}
 use Rattle.cache_space.specs.Blocks.{is_in_run, is_in_runs}
 use Rattle.cache_space.specs.Space.{AreApart, AreMaximalFrom, AreMaximal, blocks_in}
@@ -100,8 +100,8 @@ pub stored_run : (v w : View) (runs : List Run) (run : Run) (bytes piece : List 
     → AllStand v.content (extents_over runs bytes) → AllStand w.content (extents_over (runs ++ run ∷ []) bytes)
 stored_run v w runs run bytes piece sound sound_then apart is small torn now h =
     let inside = wrote_inside 1 (in_blocks_of (run ∷ [])) (run.first * 4096) (length piece) v w
-        (run_range (run ∷ []) run (length piece) small (λ block here. or_left (is_in_run block run) false here))
-        (wrote 1 (run.first * 4096) (length piece) v w sound sound_then torn) in
+    (run_range (run ∷ []) run (length piece) small (λ block here. or_left (is_in_run block run) false here))
+    (wrote 1 (run.first * 4096) (length piece) v w sound sound_then torn) in
     subst (λ (es : List Extent). AllStand w.content es) (sym (extents_over-push runs run bytes))
     (stand_push w.content (extents_over runs bytes) _
     (moved_stand 1 (in_blocks_of (run ∷ [])) v w (extents_over runs bytes) (runs_clear (run ∷ []) runs bytes apart) inside h)
@@ -122,7 +122,7 @@ module _ (runs : List Run) (bytes rest : List ℕ) (i : ℕ) (d : Run) (lt : i <
   pub next_rest : drop (min ((get_or runs i d).count * 4096) (length rest)) rest ≡ drop (blocks_in (take (i + 1) runs) * 4096) bytes
   next_rest =
       let count : blocks_in (take i runs) * 4096 + (get_or runs i d).count * 4096 ≡ blocks_in (take (i + 1) runs) * 4096 =
-          omega (arith, sum_by-append (λ (x : Run). x.count) (take i runs) (get_or runs i d ∷ []), ap blocks_in (take_more runs i d lt)) in
+      omega (arith, sum_by-append (λ (x : Run). x.count) (take i runs) (get_or runs i d ∷ []), ap blocks_in (take_more runs i d lt)) in
       drop_min ((get_or runs i d).count * 4096) rest ∙ ap (λ (l : List ℕ). drop ((get_or runs i d).count * 4096) l) so_far
       ∙ drop-drop ((get_or runs i d).count * 4096) (blocks_in (take i runs) * 4096) bytes ∙ ap (λ (n : ℕ). drop n bytes) count
 
