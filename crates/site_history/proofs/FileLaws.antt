@@ -101,7 +101,7 @@ rising-set low [] i d new e lt h = h
 rising-set low (file ∷ files) zero d new e lt h = (omega (arith, e, h.0), rising-lower (new.inode + 1) (file.inode + 1) files (omega (arith, e)) h.1)
 rising-set low (file ∷ files) (suc i) d new e lt h = (h.0, rising-set (file.inode + 1) files i d new e (omega arith) h.1)
 
-accessed-inode : (moment inode : ℕ) (file : FileRec) → (accessed_by moment inode file).inode ≡ file.inode
+pub accessed-inode : (moment inode : ℕ) (file : FileRec) → (accessed_by moment inode file).inode ≡ file.inode
 accessed-inode moment inode file = by_test (file.inode == inode)
   where
     by_test : (b : Bool) → (cond b (record file { accessed = moment }) file).inode ≡ file.inode
