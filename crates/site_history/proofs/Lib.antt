@@ -4,3 +4,4 @@ pub mod ByteLaws
 pub mod HeldRuns
 pub mod Finds
 pub mod SiteLaws
+pub mod Edits
