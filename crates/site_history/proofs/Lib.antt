@@ -5,3 +5,7 @@ pub mod HeldRuns
 pub mod Finds
 pub mod SiteLaws
 pub mod Edits
+pub mod RunRanges
+pub mod StepRanges
+pub mod Puts
+pub mod Accesses
