@@ -9,3 +9,4 @@ pub mod RunRanges
 pub mod StepRanges
 pub mod Puts
 pub mod Accesses
+pub mod Turns
