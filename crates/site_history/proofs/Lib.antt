@@ -10,3 +10,4 @@ pub mod StepRanges
 pub mod Puts
 pub mod Accesses
 pub mod Turns
+pub mod Answered
