@@ -1,8 +1,11 @@
 -- Files that are found: the first of a path, and the one of an inode. Code that looks for the place of a file finds the same.
-use Rattle.std.proofs.Common.{◌≡◌, ℕ, ◌+◌, ◌<◌, zero, suc, List, [], ◌∷◌, length, get_or, refl, ◌∙◌, ap, subst, arith, Bool, true, false, cond, Some, None}
-use Rattle.std.specs.Prelude.{◌==◌, ◌||◌, find}
-use Rattle.std.specs.List.{list_any}
+use Rattle.std.proofs.Common.{◌≡◌, ℕ, ◌+◌, ◌<◌, ◌≤◌, zero, suc, List, [], ◌∷◌, length, get_or, refl, ◌∙◌, ap, subst, arith, Bool, true, false, cond, Some, None}
+use Rattle.std.specs.Prelude.{◌==◌, ◌||◌, find, slice_get}
+use Rattle.std.specs.List.{list_any, position_or_len}
 use Rattle.std.proofs.lemmas.Bool.{eq-eqb, ne_eqb, or_left, or_right, both_ways}
+use Rattle.std.proofs.lemmas.List.{get_or_default}
+use Rattle.std.proofs.lemmas.List.Folds.{find_at}
+use Rattle.std.proofs.lemmas.Option.{slice_get-get_or, slice_get_past}
 use Rattle.records.specs.declared.file.FileRec.{FileRec}
 use Rattle.site_history.proofs.FileLaws.{AreRisingFrom, rising_at}
 
@@ -11,6 +14,17 @@ pub record StandsAt (files : List FileRec) (file : FileRec) : Type 0 where
   pub place : ℕ
   pub within : place < length files
   pub here : (d : FileRec) → get_or files place d ≡ file
+
+-- the file at a place that code has
+pub stands-at : (files : List FileRec) (i : ℕ) (d : FileRec) → i < length files → StandsAt files (get_or files i d)
+stands-at files i d lt = record { place = i; within = lt; here = λ e. get_or_default files i e d lt }
+
+-- the first place that passes a test has what is found, and where none passes nothing is found
+pub find-place : (p : FileRec → Bool) (files : List FileRec) (i : ℕ) (d : FileRec) → i ≡ position_or_len p files → i < length files → find p files ≡ Some (get_or files i d)
+find-place p files i d is lt = find_at p files ∙ subst (λ (n : ℕ). slice_get files n ≡ Some (get_or files i d)) is (slice_get-get_or files i d lt)
+
+pub find-past : (p : FileRec → Bool) (files : List FileRec) → length files ≤ position_or_len p files → find p files ≡ None
+find-past p files past = find_at p files ∙ slice_get_past files (position_or_len p files) past
 
 -- what is found is one of the files, and passes the test
 pub found-stands : (p : FileRec → Bool) (files : List FileRec) (file : FileRec) → find p files ≡ Some file → StandsAt files file × (p file ≡ true)
