@@ -1,5 +1,5 @@
 -- A line says one thing, or one thing is wrong with it.
-use Rattle.std.proofs.Common.{◌≡◌, ℕ, ◌<◌, ◌≤◌, Bool, true, false, cond, List, [], length, Option, Some, None, Ok, Err, refl, sym, ap, subst, ◌∙◌, arith, ◌⊎◌, inl, inr}
+use Rattle.std.proofs.Common.{◌≡◌, ℕ, ◌<◌, ◌≤◌, List, length, Option, Some, None, Ok, Err, refl, sym, ap, subst, ◌∙◌, ◌⊎◌, inl, inr}
 use Rattle.std.proofs.lemmas.Bool.{cases_lt}
 use Rattle.site_text.specs.Words.{named}
 use Rattle.records.specs.declared.event.Asked.{Asked}
@@ -8,7 +8,7 @@ use Rattle.records.specs.declared.reply.LineRefusal.TheVariants.{NotACommand, Ba
 use Rattle.desk.specs.declared.commands.Command.{Command}
 use Rattle.desk.specs.Forms.{Read, ◌>>=◌, Values, first_word, after_word, values_at}
 use Rattle.desk.specs.Asks.{commands, forms_of, asked_with, asked_by, command_of, asked_of}
-use Rattle.desk.specs.Says.{IsBlank, WordStands, AllSay, FirstWrong, Names, LineAsks, NamesNone, HasBadWord, LineWrong}
+use Rattle.desk.specs.Says.{WordStands, Names, LineAsks, LineWrong}
 use Rattle.desk.proofs.Facts.{asked_of-short, asked_of-long}
 use Rattle.desk.proofs.WordCuts.{Front, front_of, first_is, after_is, blank_has_none}
 use Rattle.desk.proofs.WordLaws.{Refused, Judges, judged, reads, refuses}
