@@ -13,7 +13,7 @@ use Rattle.engine.specs.declared.kept.Engine.{Engine}
 
 -- these files are those of the fields, and the blocks that are taken are theirs
 pub record Keeps (site : SiteFiles) (fields : Fields) : Type 0 where
-  pub files : site.files ≡ fields.files
+  pub files : site.files.list ≡ fields.files
   pub next_inode : site.next_inode ≡ fields.next_inode
   pub moment : site.moment ≡ fields.moment
   pub space : site.space ≡ taken_by fields.blocks (held_runs fields.files)

@@ -4,7 +4,10 @@
 mod engine;
 mod files;
 mod kept;
+mod legal;
+mod stored;
 
 pub use engine::{Shut, ShutCause};
 pub use files::Files;
 pub use kept::{Engine, SiteFiles};
+pub use stored::PutFields;
