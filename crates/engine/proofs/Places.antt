@@ -1,5 +1,5 @@
 -- Places in lists: what stands before and behind the first element that passes a test, and what a change at its place leaves.
-use Rattle.std.proofs.Common.{◌≡◌, ℕ, zero, suc, ◌+◌, ◌<◌, List, [], ◌∷◌, ◌++◌, length, take, drop, get_or, set, refl, sym, ◌∙◌, ap, subst, arith, Bool, true, false, cond, Option, Some, None, add_assoc, zero-add}
+use Rattle.std.proofs.Common.{◌≡◌, ℕ, zero, suc, ◌+◌, ◌<◌, List, [], ◌∷◌, ◌++◌, length, take, drop, get_or, set, refl, sym, ◌∙◌, ap, subst, arith, Bool, true, false, cond, Option, Some, None, length-append}
 use Rattle.std.specs.Prelude.{find, position, slice_get, remove, is_some, ◌||◌}
 use Rattle.std.specs.List.{AllByRecursion, position_from, list_any}
 use Rattle.std.proofs.lemmas.Iterator.Adapters.{position_from-zero}
@@ -106,3 +106,16 @@ some_place {X} p (x ∷ xs) base = by_test (p x) (some_place p xs (base + 1))
 
 pub is_some-position : {X : Type 0} (p : X → Bool) (xs : List X) → is_some (position p xs) ≡ list_any p xs
 is_some-position p xs = ap is_some (position_from-zero p xs) ∙ some_place p xs 0
+
+module _ {X : Type 0} (p : X → Bool) (xs : List X) (place : ℕ) (at : FirstAt p xs 0 place) where
+  place_is : place ≡ length at.front
+  place_is = omega (arith, at.at)
+
+  pub first-within : place < length xs
+  first-within = omega (arith, at.at, ap length at.whole, length-append at.front (at.item ∷ at.back))
+
+  pub first-slice_get : slice_get xs place ≡ Some at.item
+  first-slice_get = ap (λ l. slice_get l place) at.whole ∙ ap (λ n. slice_get (at.front ++ at.item ∷ at.back) n) place_is ∙ slice_get-at at.front at.item at.back
+
+  pub first-get_or : (d : X) → get_or xs place d ≡ at.item
+  first-get_or d = ap (λ l. get_or l place d) at.whole ∙ ap (λ n. get_or (at.front ++ at.item ∷ at.back) n d) place_is ∙ get_or-at at.front at.item at.back d

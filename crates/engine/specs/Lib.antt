@@ -1,5 +1,6 @@
 pub mod Fields
 pub mod FileList
+pub mod Room
 pub mod StandsFor
 pub mod Journals
 pub mod Inside

@@ -1,6 +1,7 @@
 //! A site over a store: it is reopened from its journal, each event is answered, and what it changes is journalled.
 #![tactic(auto)]
 
+mod apply;
 mod engine;
 mod files;
 mod kept;
