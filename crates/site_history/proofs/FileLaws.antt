@@ -1,10 +1,10 @@
 -- Files by inode. Their inodes rise, so that each is that of one file; and what a put, a read and a removal do to the list of
 -- files is one edit of it, as code makes it: `with_file-new` for a push, `with_file-set` and `accessed-set` for `files[i] = ..`,
 -- `without_file-remove` for `files.remove(i)`.
-use Rattle.std.proofs.Common.{◌≡◌, ℕ, ◌+◌, ◌<◌, ◌≤◌, zero, suc, List, [], ◌∷◌, ◌++◌, length, get_or, set, map, refl, sym, ◌∙◌, ap, arith, Bool, true, false, cond, not, Option, Some, None}
-use Rattle.std.specs.Prelude.{◌==◌, ◌||◌, find}
-use Rattle.std.specs.List.{AllByRecursion, list_any, remove}
-use Rattle.std.proofs.lemmas.Bool.{eq-eqb, ne_eqb, eqb-false, eqb-true, or_cases, both_ways, cases_Bool}
+use Rattle.std.proofs.Common.{◌≡◌, ℕ, ◌+◌, ◌<◌, ◌≤◌, zero, suc, List, [], ◌∷◌, ◌++◌, length, get_or, set, map, refl, ◌∙◌, ap, arith, Bool, true, false, cond, not}
+use Rattle.std.specs.Prelude.{◌==◌}
+use Rattle.std.specs.List.{AllByRecursion, remove}
+use Rattle.std.proofs.lemmas.Bool.{eq-eqb, ne_eqb, eqb-false}
 use Rattle.records.specs.declared.file.FileRec.{FileRec}
 use Rattle.site_history.specs.Site.{with_file}
 use Rattle.site_history.specs.Steps.{accessed_by, without_file}

@@ -1,10 +1,9 @@
 -- Files that are found: the first of a path, and the one of an inode. Code that looks for the place of a file finds the same.
-use Rattle.std.proofs.Common.{◌≡◌, ℕ, ◌+◌, ◌<◌, ◌≤◌, zero, suc, List, [], ◌∷◌, length, get_or, refl, sym, ◌∙◌, ap, subst, arith, Bool, true, false, cond, Option, Some, None}
+use Rattle.std.proofs.Common.{◌≡◌, ℕ, ◌+◌, ◌<◌, zero, suc, List, [], ◌∷◌, length, get_or, refl, ◌∙◌, ap, subst, arith, Bool, true, false, cond, Some, None}
 use Rattle.std.specs.Prelude.{◌==◌, ◌||◌, find}
 use Rattle.std.specs.List.{list_any}
 use Rattle.std.proofs.lemmas.Bool.{eq-eqb, ne_eqb, or_left, or_right, both_ways}
 use Rattle.records.specs.declared.file.FileRec.{FileRec}
-use Rattle.site_history.specs.Site.{file_at}
 use Rattle.site_history.proofs.FileLaws.{AreRisingFrom, rising_at}
 
 -- the file at a place is this one

@@ -1,9 +1,11 @@
 -- The runs that the files hold, after each edit of the list of files, and what of the blocks is taken then. In the terms of a
--- cache's `hold` and `give`: a new file is `held-push`; a replaced one holds the new runs first (`replaced-taken`) and then
--- gives the old ones (`replaced-apart`); a removed one gives its runs (`removed-taken`, `removed-apart`).
-use Rattle.std.proofs.Common.{◌≡◌, ℕ, ◌<◌, ◌≤◌, zero, suc, List, [], ◌∷◌, ◌++◌, length, get_or, set, take, drop, map, refl, sym, ◌∙◌, ap, subst, arith, Bool, true, false, cond, append_assoc}
+-- cache's `hold` and `give`, whose clauses these lemmas take: `pushed-space` for a new file, whose runs are held; `replaced-space`
+-- for one that is replaced, whose new runs are held before the old ones are given; `removed-space` for one that is removed, whose
+-- runs are given; `held-set_same` for one whose runs stay. That the runs of two files have no block in common is a part of
+-- `IsOrderly`.
+use Rattle.std.proofs.Common.{◌≡◌, ℕ, ◌<◌, zero, suc, List, [], ◌∷◌, ◌++◌, length, get_or, set, take, drop, map, refl, sym, ◌∙◌, ap, subst, arith, Bool, true, false, cond, append_assoc}
 use Rattle.std.specs.Prelude.{◌==◌}
-use Rattle.std.specs.List.{remove, flat_map}
+use Rattle.std.specs.List.{remove}
 use Rattle.std.proofs.lemmas.List.{append-nil}
 use Rattle.std.proofs.lemmas.List.Concat.{flat_map-append}
 use Rattle.records.specs.declared.file.FileRec.{FileRec}
@@ -120,3 +122,34 @@ module _ (total : ℕ) (files : List FileRec) (i : ℕ) (d : FileRec) (lt : i < 
   pub removed-there : AreThere total (held_runs files) → AreThere total (held_runs (remove files i))
   removed-there there = subst (λ (l : List Run). AreThere total l) (sym (held-remove files i))
       (AreThere-removed total (held_runs (take i files)) (get_or files i d).runs (held_runs (drop (suc i) files)) (parts (AreThere total) there)).0
+
+-- what a cache's `hold` says of the blocks that are taken before and after it
+abbrev pub Holds : List Bool → List Bool → List Run → Type 0
+Holds old new runs = (total : ℕ) (held : List Run) → old ≡ taken_by total held → new ≡ taken_by total (held ++ runs)
+
+-- and its `give`
+abbrev pub Gives : List Bool → List Bool → List Run → Type 0
+Gives old new runs = (total : ℕ) (kept : List Run) → old ≡ taken_by total (kept ++ runs) → AreApart kept runs → new ≡ taken_by total kept
+
+-- a file joins the others
+pub pushed-space : (total : ℕ) (files : List FileRec) (file : FileRec) (old new : List Bool) → old ≡ taken_by total (held_runs files) → Holds old new file.runs
+    → new ≡ taken_by total (held_runs (files ++ file ∷ []))
+pushed-space total files file old new is holds = holds total (held_runs files) is ∙ ap (λ (l : List Run). taken_by total l) (sym (held-push files file))
+
+-- a file takes the place of another: its runs, which are free, are held, and then those of the other are given
+pub replaced-space : (total : ℕ) (files : List FileRec) (i : ℕ) (d file : FileRec) (old between new : List Bool) → i < length files → old ≡ taken_by total (held_runs files)
+    → AreDisjoint (held_runs files) → AreApart file.runs (held_runs files) → Holds old between file.runs → Gives between new (get_or files i d).runs
+    → new ≡ taken_by total (held_runs (set files i file))
+replaced-space total files i d file old between new lt is disjoint apart holds gives =
+    gives total (held_runs (set files i file)) (holds total (held_runs files) is ∙ replaced-taken total files i d lt file) (replaced-apart total files i d lt file disjoint apart)
+
+-- a file goes, and its runs are given
+pub removed-space : (total : ℕ) (files : List FileRec) (i : ℕ) (d : FileRec) (old new : List Bool) → i < length files → old ≡ taken_by total (held_runs files)
+    → AreDisjoint (held_runs files) → Gives old new (get_or files i d).runs → new ≡ taken_by total (held_runs (remove files i))
+removed-space total files i d old new lt is disjoint gives =
+    gives total (held_runs (remove files i)) (is ∙ removed-taken total files i d lt) (removed-apart total files i d lt disjoint)
+
+-- a file is changed, and its runs are not
+pub same-space : (total : ℕ) (files : List FileRec) (i : ℕ) (d file : FileRec) (space : List Bool) → i < length files → space ≡ taken_by total (held_runs files)
+    → file.runs ≡ (get_or files i d).runs → space ≡ taken_by total (held_runs (set files i file))
+same-space total files i d file space lt is same = is ∙ ap (λ (l : List Run). taken_by total l) (sym (held-set_same files i d file lt same))

@@ -1,32 +1,32 @@
--- What holds of the site after any history: `orderly`. `found-file` says it of the file of a path, `there-file` of the file of an
--- inode.
-use Rattle.std.proofs.Common.{◌≡◌, ℕ, ◌+◌, ◌<◌, ◌≤◌, ◌^◌, List, [], ◌∷◌, ◌++◌, length, get_or, set, map, refl, sym, ◌∙◌, ap, subst, arith, Bool, true, false, cond, Option, Some, None, length-append}
+-- What holds of the site after any history: `orderly`. `found-file` says it of the file that a path finds, `there-file` of the
+-- file of an inode that is there, and `placed-file` of the file at a place of the list, as code has it.
+use Rattle.std.proofs.Common.{◌≡◌, ℕ, ◌+◌, ◌<◌, ◌≤◌, ◌^◌, List, [], ◌∷◌, ◌++◌, length, get_or, set, map, refl, sym, ◌∙◌, ap, subst, arith, Option, Some, None, length-append}
 use Rattle.std.specs.Prelude.{MatchOption, ◌==◌, find, IsTrue}
 use Rattle.std.specs.Option.{option_map_or}
 use Rattle.std.specs.Str.{bytes_eq}
-use Rattle.std.specs.List.{AllByRecursion, list_any, remove}
+use Rattle.std.specs.List.{AllByRecursion, remove}
 use Rattle.std.proofs.lemmas.List.{length-set, length-map}
 use Rattle.std.proofs.lemmas.Bool.{eqb-true}
+use Rattle.std.proofs.lemmas.Slice.Eq.{bytes_eq-Decides}
 use Rattle.records.specs.declared.file.FileRec.{FileRec}
 use Rattle.records.specs.declared.file.Run.{Run}
-use Rattle.records.specs.declared.step.Step.{Step}
 use Rattle.records.specs.declared.step.StepKind.{StepKind}
 use Rattle.records.specs.declared.step.StepKind.TheVariants.{Put, Accessed, Removed}
 use Rattle.records.specs.Paths.{is_legal_path, is_legal_name}
-use Rattle.records.specs.Written.{InRange}
+use Rattle.records.specs.Ranges.{IsInode}
 use Rattle.records.proofs.InRange.{ranges}
 use Rattle.cache_space.specs.Blocks.{blocks_for}
-use Rattle.cache_space.specs.Space.{AreThere, AreApart, AreDisjoint, AreMaximal, blocks_in}
+use Rattle.cache_space.specs.Space.{AreThere, AreDisjoint, AreMaximal, blocks_in}
 use Rattle.cache_space.proofs.HeldBlocks.{AreThere-nil}
 use Rattle.cache_space.proofs.LowestRuns.{AreMaximal-disjoint}
-use Rattle.site_history.specs.Site.{Fields, FileBytes, Site, first_site, file_at, held_runs, with_file, with_bytes, bytes_of}
-use Rattle.site_history.specs.Steps.{HistoryStep, PutOf, stored_file, put_effect, accessed_by, without_file, without_bytes, effect, fields_after, contents_after, IsLegalPut, IsLegal, HasBytes, IsThere}
+use Rattle.site_history.specs.Site.{FileBytes, Site, first_site, file_at, held_runs, with_file, with_bytes, bytes_of}
+use Rattle.site_history.specs.Steps.{HistoryStep, PutOf, stored_file, put_effect, accessed_by, without_file, without_bytes, effect, IsLegalPut, IsLegal, HasBytes, IsThere}
 use Rattle.site_history.specs.Histories.{after, IsHistory}
 use Rattle.site_history.proofs.HistoryLaws.{history-counts}
-use Rattle.site_history.proofs.FileLaws.{AreBelow, AreRisingFrom, are_below-more, with_file-new, with_file-set, without_file-remove, rising_at, below_at, rising-push, rising-set, rising-accessed, rising-without, all-push, all-later, all-below, all-set, all-accessed, all-without, all_at, length-without}
+use Rattle.site_history.proofs.FileLaws.{AreBelow, AreRisingFrom, are_below-more, with_file-new, with_file-set, without_file-remove, rising_at, below_at, rising-push, rising-set, rising-accessed, rising-without, all-push, all-below, all-set, all-accessed, all-without, all_at, length-without}
 use Rattle.site_history.proofs.ByteLaws.{bytes_of-with_same, bytes_of-with_other, bytes_of-without}
 use Rattle.site_history.proofs.HeldRuns.{held-accessed, pushed-disjoint, pushed-there, replaced-disjoint, replaced-there, removed-disjoint, removed-there}
-use Rattle.site_history.proofs.Finds.{StandsAt, found-stands, any-stands}
+use Rattle.site_history.proofs.Finds.{StandsAt, found-stands, any-stands, find-inode, any-inode}
 
 -- What holds of a file after so many steps, the last at this moment: it is whole in the cache and its bytes are kept; its runs
 -- are maximal and as many blocks as its length needs; no moment of it is later.
@@ -279,3 +279,42 @@ orderly-more count site made orderly legal has = step_orderly count site made.st
 -- the site after any history is orderly
 pub orderly : (steps : List HistoryStep) → IsHistory steps → IsOrderly (length steps) (after steps)
 orderly steps h = history-counts IsOrderly first_orderly orderly-more steps h
+
+-- what is known of one of a site's files
+pub record IsFileOf (count : ℕ) (site : Site) (file : FileRec) : Type 0 where
+  pub stands : StandsAt site.fields.files file
+  pub kept : IsKept count site.fields.moment site.contents file
+  pub inode : IsInode file.inode
+  pub below : file.inode < site.fields.next_inode
+  pub finds : find (λ (f : FileRec). f.inode == file.inode) site.fields.files ≡ Some file
+  pub there : IsThere site.fields file.inode
+
+module _ (count : ℕ) (site : Site) (orderly : IsOrderly count site) where
+  -- the file at a place
+  pub placed-file : (file : FileRec) → StandsAt site.fields.files file → IsFileOf count site file
+  placed-file file stands =
+      let e : get_or site.fields.files stands.place file ≡ file = stands.here file in
+      let same : (get_or site.fields.files stands.place file).inode ≡ file.inode = ap (λ (f : FileRec). f.inode) e in
+      let low = rising_at 1 site.fields.files stands.place file orderly.rising stands.within in
+      let high = below_at site.fields.next_inode site.fields.files stands.place file orderly.below stands.within in
+      record {
+        stands = stands;
+        kept = subst (λ (f : FileRec). IsKept count site.fields.moment site.contents f) e
+            (all_at (IsKept count site.fields.moment site.contents) site.fields.files stands.place file orderly.files stands.within);
+        inode = (omega (arith, same, low), omega (arith, same, high, orderly.small));
+        below = omega (arith, same, high);
+        finds = find-inode 1 file.inode site.fields.files stands.place file orderly.rising stands.within same ∙ ap (λ (f : FileRec). Some f) e;
+        there = any-inode file.inode site.fields.files stands.place file stands.within same;
+      }
+
+  -- the file that a path finds has that path
+  pub found-file : (path : List ℕ) (file : FileRec) → file_at path site.fields.files ≡ Some file → IsFileOf count site file × (file.path ≡ path)
+  found-file path file e =
+      let found = found-stands (λ (f : FileRec). bytes_eq f.path path) site.fields.files file e in
+      (placed-file file found.0, (bytes_eq-Decides file.path path).0 found.1)
+
+  -- the file of an inode that is there
+  pub there-file : (inode : ℕ) → IsThere site.fields inode → (file : FileRec) × IsFileOf count site file × (file.inode ≡ inode)
+  there-file inode there =
+      let found = any-stands (λ (f : FileRec). f.inode == inode) site.fields.files there in
+      (found.0, placed-file found.0 found.1, eqb-true found.0.inode inode found.2)
