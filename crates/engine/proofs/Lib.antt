@@ -1,3 +1,4 @@
 pub mod Places
 pub mod Legality
 pub mod Effects
+pub mod Replaying

@@ -6,6 +6,7 @@ mod engine;
 mod files;
 mod kept;
 mod legal;
+mod replay;
 mod stored;
 
 pub use engine::{Shut, ShutCause};
