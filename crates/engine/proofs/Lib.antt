@@ -2,3 +2,4 @@ pub mod Places
 pub mod Legality
 pub mod Effects
 pub mod Replaying
+pub mod Reading

@@ -6,6 +6,7 @@ mod engine;
 mod files;
 mod kept;
 mod legal;
+mod reopen;
 mod replay;
 mod stored;
 
