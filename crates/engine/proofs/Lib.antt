@@ -3,3 +3,4 @@ pub mod Legality
 pub mod Effects
 pub mod Replaying
 pub mod Reading
+pub mod Standing

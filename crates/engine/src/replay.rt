@@ -43,11 +43,7 @@ impl SiteFiles {
 }
 
 // The step that a payload is the written form of, if it is one that may come next.
-fn next_step(
-    alloc: Global,
-    site: &SiteFiles,
-    payload: &[u8],
-) -> Result<Option<Step>, AllocError>
+fn next_step(alloc: Global, site: &SiteFiles, payload: &[u8]) -> Result<Option<Step>, AllocError>
     ensures { (fields : Fields) → Keeps site.now fields → IfOk result (IsRead fields payload.now) }
 {
     match decode_step(alloc, payload) {
