@@ -31,6 +31,7 @@ impl SiteFiles {
                 self.space.give(replaced.as_slice());
             }
             None => {
+                // A legal put of a new path comes only where the next inode is below the type's end.
                 self.next_inode = self.next_inode.saturating_add(1);
                 self.files.push(new_file(moment, put));
             }

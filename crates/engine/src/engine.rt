@@ -46,7 +46,7 @@ impl<B: Bank, P: Drop> Engine<B, P> {
     /// writes nothing.
     pub fn reopen(
         alloc: Global,
-        bank: B,
+        mut bank: B,
         patterns: P,
         journal_bytes: u64,
     ) -> Result<Engine<B, P>, Shut<B, P>>
@@ -64,7 +64,6 @@ impl<B: Bank, P: Drop> Engine<B, P> {
         ensures later { MatchResult result (λ engine. B.faults bank ≤ B.faults engine.bank) (λ shut. B.faults bank ≤ B.faults shut.bank) }
         ensures patterns { MatchResult result (λ engine. engine.patterns ≡ patterns) (λ shut. shut.patterns ≡ patterns) }
     {
-        let mut bank = bank;
         let Ok(payload) = Vec::with_capacity(alloc, PAYLOAD_MAX) else {
             return Err(Shut {
                 cause: ShutCause::NoMemory,

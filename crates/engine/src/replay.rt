@@ -81,6 +81,7 @@ pub fn replay(alloc: Global, payloads: &[Bytes]) -> Result<SiteFiles, ShutCause>
             Ok(None) => return Err(ShutCause::BadJournal(place)),
             Err(_) => return Err(ShutCause::NoMemory),
         }
+        // Records lie within the journal's area, so a place in it never comes near the type's end.
         place = place.saturating_add(HEAD + payload.len() as u64);
     }
     Ok(site)

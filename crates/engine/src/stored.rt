@@ -73,6 +73,7 @@ pub fn store_over(file: &mut FileRec, moment: u64, put: PutFields) -> List<Run>
     file.modified = moment;
     file.accessed = moment;
     file.resided = moment;
+    // A generation is at most the number of steps, which is counted in eight bytes.
     file.generation = file.generation.saturating_add(1);
     file.length = length;
     file.cached = length;
