@@ -132,18 +132,20 @@ module _ {B P : Type 0} (view : B → View) (old new : Engine B P) (w : World) w
     recovered false s sound only durable holds = recovered_untold s
     recovered true s sound only durable holds = recovered_told s (sound refl) (only refl) (durable refl) (holds refl)
 
--- an engine that is opened: it stands for the history that its store is settled for, or for that of the journal as read
+-- an engine that is opened stands for the history of the journal as read, whatever the store tells
+pub stands_read : {B P : Type 0} (view : B → View) (new : Engine B P) (read : List HistoryStep) → IsReplayed new.journal new.site read
+    → new.steps ≡ new.journal.count → new.clock ≡ new.site.moment → new.due ≡ false → StandsFor false view new (new_world read)
+stands_read view new read h count clock due =
+    stands_at false view new read (after read).fields.moment h count (clock ∙ h.keeps.moment) (omega arith) (omega (arith, new.site.range, h.keeps.moment)) due
+    (λ is_told. absurd (let differs : false ≡ true = is_told in cc))
+
+-- It stands for the history that its store is settled for, or for that of the journal as read.
 pub opened : {B P : Type 0} (told : Bool) (view : B → View) (before : List HistoryStep) (size : ℕ) (u : View) (new : Engine B P) (read : List HistoryStep) → IsReplayed new.journal new.site read
     → new.steps ≡ new.journal.count → new.clock ≡ new.site.moment → new.due ≡ false → new.journal.size ≡ size
     → (IsTrue told → IsSettled size u before) → (IsTrue told → OnlyRead u (view new.bank)) → (IsTrue told → OnlyContent 0 (view new.bank))
     → (IsTrue told → HoldsRecords ((view new.bank).content 0) 0 (written_forms read) size)
     → (found : List HistoryStep) × IsFound told before found × StandsFor told view new (new_world found)
-opened false view before size u new read h count clock due same settled only durable holds = (
-  read,
-  h.history,
-  stands_at false view new read (after read).fields.moment h count (clock ∙ h.keeps.moment) (omega arith) (omega (arith, new.site.range, h.keeps.moment)) due
-      (λ is_told. absurd (let differs : false ≡ true = is_told in cc)),
-)
+opened false view before size u new read h count clock due same settled only durable holds = (read, h.history, stands_read view new read h count clock due)
 opened true view before size u new read h count clock due same settled only durable holds =
     let found = found_settled size u (view new.bank) before (settled refl) (only refl) (durable refl) (written_forms read) (holds refl) in
     let there = same_replayed new.journal new.site read before h (settled refl).now.history found.0 in (

@@ -57,6 +57,8 @@ impl<B: Bank, P: Drop> Engine<B, P> {
         ensures ready { IfOk result (λ engine. engine.due ≡ false) }
         ensures size { IfOk result (λ engine. engine.journal.size ≡ journal_bytes) }
         ensures unchanged { IsTrue B.tells → MatchResult result (λ engine. OnlyRead (B.view bank) (B.view engine.bank)) (λ shut. OnlyRead (B.view bank) (B.view shut.bank)) }
+        // Whatever the store is settled for, it stands for the history that the journal holds.
+        ensures held { IfOk result (λ engine. (found : List HistoryStep) × StandsFor false B.view engine (new_world found) × (IsTrue B.tells → HoldsHistory journal_bytes ((B.view bank).content 0) found)) }
         // The journal holds a history, or it is bad at a place.
         ensures journal { IsTrue B.tells → IfOk result (λ engine. (found : List HistoryStep) × HoldsHistory journal_bytes ((B.view bank).content 0) found) }
         ensures bad_journal { IsTrue B.tells → IfErr result (λ shut. TellsJournal journal_bytes ((B.view bank).content 0) shut.cause) }

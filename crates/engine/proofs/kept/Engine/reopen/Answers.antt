@@ -1,6 +1,6 @@
 use Rattle.std.proofs.Common.{refl}
 use Rattle.bank.proofs.Readings.{nothing_read}
-use Rattle.engine.proofs.Standing.{opened, tells_before, holds_before}
+use Rattle.engine.proofs.Standing.{opened, stands_read, tells_before, holds_before}
 use Rattle.engine.proofs.kept.Engine.reopen.Goals as goal
 
 pub returns-in_default-clause-unchanged : goal.returns-in_default-clause-unchanged
@@ -13,6 +13,14 @@ returns-in-Ok-read_site-clause-stands g c = λ told tells before settled.
     (λ t. c.in-Ok-read_site.ensures.unchanged (tells t))
     (λ t. c.in-Ok-read_site.ensures.durable (tells t))
     (λ t. read.2 (tells t))
+
+pub returns-in-Ok-read_site-clause-held : goal.returns-in-Ok-read_site-clause-held
+returns-in-Ok-read_site-clause-held g c =
+    let read = c.in-Ok-read_site.ensures.read in (
+      read.0,
+      stands_read g.B.Bank.view _ read.0 read.1 c.count.ensures refl refl,
+      λ told. holds_before c.args.journal_bytes (g.B.Bank.view c.args.bank) (g.B.Bank.view c.read_site.new.bank) read.0 (c.in-Ok-read_site.ensures.unchanged told) read.1.history (read.2 told),
+    )
 
 pub returns-in-Ok-read_site-clause-journal : goal.returns-in-Ok-read_site-clause-journal
 returns-in-Ok-read_site-clause-journal g c = λ told.
