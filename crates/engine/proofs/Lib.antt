@@ -1,1 +1,6 @@
-pub mod Waits
+pub mod Places
+pub mod Legality
+pub mod Effects
+pub mod Replaying
+pub mod Reading
+pub mod Standing

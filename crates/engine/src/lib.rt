@@ -1,10 +1,16 @@
 //! A site over a store: it is reopened from its journal, each event is answered, and what it changes is journalled.
 #![tactic(auto)]
 
+mod apply;
 mod engine;
 mod files;
 mod kept;
+mod legal;
+mod reopen;
+mod replay;
+mod stored;
 
 pub use engine::{Shut, ShutCause};
 pub use files::Files;
 pub use kept::{Engine, SiteFiles};
+pub use stored::PutFields;
