@@ -35,13 +35,13 @@ module _ (area : ℕ) (inside : ℕ → Bool) where
   pub inside_nothing : (old new : View) → IsSound old → IsSound new → Unchanged old new → WroteInside area inside old new
   inside_nothing old new sound sound_then h =
       let w = wrote_nothing area 0 0 old new sound sound_then h in record {
-    content = λ k out. w.content k (inr (omega arith));
-    other_content = w.other_content;
-    images = λ c left. let d = w.images c left in (d.0, d.1, λ k out. d.2 k (inr (omega arith)));
-    other_images = w.other_images;
-    moments = weakened old new (IsTornImage old area 0 0) (IsTornInside old area inside) w.moments
-        (λ c t. record { torn = (t.torn.0, t.torn.1, λ k out. t.torn.2 k (inr (omega arith))); others = t.others });
-  }
+        content = λ k out. w.content k (inr (omega arith));
+        other_content = w.other_content;
+        images = λ c left. let d = w.images c left in (d.0, d.1, λ k out. d.2 k (inr (omega arith)));
+        other_images = w.other_images;
+        moments = weakened old new (IsTornImage old area 0 0) (IsTornInside old area inside) w.moments
+            (λ c t. record { torn = (t.torn.0, t.torn.1, λ k out. t.torn.2 k (inr (omega arith))); others = t.others });
+      }
 
   -- some calls after others
   pub inside_then : (old mid new : View) → WroteInside area inside old mid → WroteInside area inside mid new → WroteInside area inside old new
