@@ -1,3 +1,4 @@
 pub mod HistoryLaws
 pub mod ImageLaws
 pub mod WritesElsewhere
+pub mod Extents
