@@ -2,3 +2,5 @@ pub mod HistoryLaws
 pub mod ImageLaws
 pub mod WritesElsewhere
 pub mod Extents
+pub mod FileBytesLaws
+pub mod StepExtents
