@@ -4,3 +4,5 @@ pub mod WritesElsewhere
 pub mod Extents
 pub mod FileBytesLaws
 pub mod StepExtents
+pub mod DistinctInodes
+pub mod Commits

@@ -16,16 +16,8 @@ use Rattle.site_history.specs.Steps.{HistoryStep, PutOf, stored_file, inode_for,
 use Rattle.site_history.specs.Images.{Extent, extents_over, extents_of, extents}
 use Rattle.site_history.specs.Pinned.{StandInAll}
 use Rattle.site_history.proofs.Extents.{stand_append, stand_front, stand_back}
+use Rattle.site_history.proofs.DistinctInodes.{HasNone, AreDistinct}
 use Rattle.site_history.proofs.FileBytesLaws.{bytes_of-with, bytes_of-with_other, bytes_of-without}
-
--- No file has this inode.
-abbrev pub HasNone : ℕ → List FileRec → Type 0
-HasNone inode files = AllByRecursion (λ (file : FileRec). file.inode ≢ inode) files
-
--- No two files have one inode.
-abbrev pub AreDistinct : List FileRec → Type 0
-AreDistinct [] = Unit {0}
-AreDistinct (file ∷ files) = HasNone file.inode files × AreDistinct files
 
 -- Where the bytes of an inode are the same, so are the extents of its file.
 same_extents : (before now : List FileBytes) (file : FileRec) → bytes_of now file.inode ≡ bytes_of before file.inode → extents_of now file ≡ extents_of before file
