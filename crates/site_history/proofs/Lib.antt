@@ -6,3 +6,4 @@ pub mod FileBytesLaws
 pub mod StepExtents
 pub mod DistinctInodes
 pub mod Commits
+pub mod JournalLaws
