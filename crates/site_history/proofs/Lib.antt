@@ -7,3 +7,4 @@ pub mod StepExtents
 pub mod DistinctInodes
 pub mod Commits
 pub mod JournalLaws
+pub mod Reopenings
