@@ -2,7 +2,7 @@
 use Rattle.std.proofs.Common.{◌≡◌, ◌≢◌, ℕ, ◌+◌, ◌*◌, ◌/◌, ◌<◌, ◌≤◌, Bool, true, false, ◌||◌, List, [], ◌∷◌, ◌++◌, length, take, drop, inr, refl, sym, ◌∙◌, ap, arith, length-take}
 use Rattle.std.specs.Prelude.{flat_map}
 use Rattle.std.specs.List.{AllByRecursion}
-use Rattle.std.proofs.lemmas.Bool.{both_ways, or_left, or_right, false_from_ne_true}
+use Rattle.std.proofs.lemmas.Bool.{both_ways, or_left, false_from_ne_true}
 use Rattle.bank.specs.Content.{Content, Image, Stands}
 use Rattle.bank.specs.View.{View, OnlyContent}
 use Rattle.bank.proofs.Spans.{Stands-same}
@@ -10,37 +10,26 @@ use Rattle.records.specs.declared.file.FileRec.{FileRec}
 use Rattle.records.specs.declared.file.Run.{Run}
 use Rattle.cache_space.specs.Blocks.{is_in_run, is_in_runs}
 use Rattle.cache_space.specs.Space.{AreApart}
-use Rattle.cache_space.proofs.RunLemmas.{is_in_run_from, is_in_runs-append}
+use Rattle.cache_space.proofs.HeldBlocks.{AreApart-from_append_right}
+use Rattle.cache_space.proofs.RunLemmas.{is_in_run_from}
 use Rattle.site_history.specs.Site.{FileBytes, Site, held_runs, bytes_of}
 use Rattle.site_history.specs.Images.{Extent, extents_over, extents_of, extents, AllStand}
-use Rattle.site_history.specs.Pinned.{StandInAll, IsClear, IsClearOf}
+use Rattle.site_history.specs.Pinned.{StandInAll, IsClearOf, in_blocks_of}
 use Rattle.site_history.proofs.WritesElsewhere.{clear_append}
-
--- The bytes of the cache that lie in blocks of these runs.
-abbrev pub in_blocks_of : List Run → ℕ → Bool
-in_blocks_of runs k = is_in_runs runs (k / 4096)
 
 -- The bytes of a run lie in its blocks.
 byte_in_run : (first count k : ℕ) → k < count * 4096 → (first ≤ (first * 4096 + k) / 4096) × ((first * 4096 + k) / 4096 < first + count)
 byte_in_run first count k lt = (omega (arith, lt), omega (arith, lt))
 
--- Runs that are apart from runs are apart from the first of them, and from the others.
+-- A block of the first of some runs is none of the runs that are apart from these.
 apart_first : (new : List Run) (run : Run) (runs : List Run) → AreApart new (run ∷ runs) → (block : ℕ) → is_in_run block run ≡ true → is_in_runs new block ≡ false
 apart_first new run runs apart block here = false_from_ne_true (is_in_runs new block)
     (λ there. both_ways (is_in_runs (run ∷ runs) block) (apart block there) (or_left (is_in_run block run) (is_in_runs runs block) here))
 
-apart_others : (new xs ys : List Run) → AreApart new (xs ++ ys) → AreApart new ys
-apart_others new xs ys apart block there = false_from_ne_true (is_in_runs ys block)
-    (λ here. both_ways (is_in_runs (xs ++ ys) block) (apart block there) (is_in_runs-append xs ys block ∙ or_right (is_in_runs xs block) (is_in_runs ys block) here))
-
-apart_front : (new xs ys : List Run) → AreApart new (xs ++ ys) → AreApart new xs
-apart_front new xs ys apart block there = false_from_ne_true (is_in_runs xs block)
-    (λ here. both_ways (is_in_runs (xs ++ ys) block) (apart block there) (is_in_runs-append xs ys block ∙ or_left (is_in_runs xs block) (is_in_runs ys block) here))
-
 -- What is laid over runs is clear of the blocks of runs that are apart from them.
 pub runs_clear : (new runs : List Run) (bytes : List ℕ) → AreApart new runs → IsClearOf 1 (in_blocks_of new) (extents_over runs bytes)
 runs_clear new [] bytes apart = tt
-runs_clear new (run ∷ runs) bytes apart = (inr here, runs_clear new runs (drop (run.count * 4096) bytes) (apart_others new (run ∷ []) runs apart))
+runs_clear new (run ∷ runs) bytes apart = (inr here, runs_clear new runs (drop (run.count * 4096) bytes) (AreApart-from_append_right new (run ∷ []) runs apart).1)
   where
     here : (k : ℕ) → k < length (take (run.count * 4096) bytes) → in_blocks_of new (run.first * 4096 + k) ≡ false
     here k lt =
@@ -51,8 +40,8 @@ runs_clear new (run ∷ runs) bytes apart = (inr here, runs_clear new runs (drop
 files_clear : (new : List Run) (contents : List FileBytes) (files : List FileRec) → AreApart new (held_runs files) → IsClearOf 1 (in_blocks_of new) (flat_map (extents_of contents) files)
 files_clear new contents [] apart = tt
 files_clear new contents (file ∷ files) apart = clear_append 1 (in_blocks_of new) (extents_of contents file) (flat_map (extents_of contents) files)
-    (runs_clear new file.runs _ (apart_front new file.runs (held_runs files) apart))
-    (files_clear new contents files (apart_others new file.runs (held_runs files) apart))
+    (runs_clear new file.runs _ (AreApart-from_append_right new file.runs (held_runs files) apart).0)
+    (files_clear new contents files (AreApart-from_append_right new file.runs (held_runs files) apart).1)
 
 -- All bytes of a site are clear of the blocks of runs that are apart from those that its files hold.
 pub site_clear : (new : List Run) (site : Site) → AreApart new (held_runs site.fields.files) → IsClearOf 1 (in_blocks_of new) (extents site)

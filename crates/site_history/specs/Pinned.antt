@@ -1,8 +1,10 @@
 -- What is known of a store that tells its content, where each image that a crash may leave reads as one history.
-use Rattle.std.specs.Prelude.{◌≡◌, ◌≢◌, ◌⊎◌, ℕ, ◌+◌, ◌<◌, Bool, false, List, [], ◌∷◌, length}
+use Rattle.std.specs.Prelude.{◌≡◌, ◌≢◌, ◌⊎◌, ℕ, ◌+◌, ◌/◌, ◌<◌, Bool, false, List, [], ◌∷◌, length}
 use Rattle.bank.specs.Content.{Content, Stands}
 use Rattle.bank.specs.View.{View}
 use Rattle.journal.specs.Records.{AllHold}
+use Rattle.records.specs.declared.file.Run.{Run}
+use Rattle.cache_space.specs.Blocks.{is_in_runs}
 use Rattle.site_history.specs.Steps.{HistoryStep}
 use Rattle.site_history.specs.Histories.{after}
 use Rattle.site_history.specs.Images.{Extent, extents, written_forms}
@@ -25,3 +27,7 @@ IsClear area inside e = (e.area ≢ area) ⊎ ((k : ℕ) → k < length e.bytes 
 abbrev pub IsClearOf : ℕ → (ℕ → Bool) → List Extent → Type 0
 IsClearOf area inside [] = Unit {0}
 IsClearOf area inside (e ∷ es) = IsClear area inside e × IsClearOf area inside es
+
+-- the bytes of the cache that lie in blocks of these runs
+abbrev pub in_blocks_of : List Run → ℕ → Bool
+in_blocks_of runs k = is_in_runs runs (k / 4096)
