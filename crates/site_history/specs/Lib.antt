@@ -5,3 +5,4 @@ pub mod Answers
 pub mod Worlds
 pub mod Images
 pub mod Journals
+pub mod Pinned
