@@ -4,9 +4,9 @@
 mod hearing;
 mod kept;
 mod round;
-
+mod run;
 
 pub use hearing::{Heard, hear};
 pub use kept::{Ending, Mark, Session};
 pub use round::one_round;
-
+pub use run::{Outcome, converse, run_lines};

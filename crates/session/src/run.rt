@@ -1,0 +1,201 @@
+//! Runs.
+
+ghost use Rattle.std.specs.Prelude.{◌≡◌, ◌≢◌, ◌≤◌, [], false, Bool, IsTrue, List as Seq};
+ghost use Rattle.input.specs.Reading.{Begins};
+ghost use Rattle.site_history.specs.Steps.{HistoryStep};
+ghost use Rattle.site_history.specs.Images.{IsSettled};
+ghost use Rattle.engine.specs.StandsFor.{StandsFor};
+ghost use Rattle.session.specs.Asking.{asks_of};
+ghost use Rattle.session.specs.Rounds.{Stage, first_of};
+ghost use Rattle.session.specs.Kept.{Passes};
+ghost use Rattle.session.specs.Session.{IsSession, seen, status_of};
+ghost use Rattle.session.specs.Refusing.{TellsRefusal, status_of_shut};
+ghost use Rattle.session.specs.Outcomes.{journal_bytes, IsOutcome, HasStatus};
+
+use crate::hearing::{Heard, hear};
+use crate::kept::{Ending, Mark, Session};
+use crate::round::{first_cause, one_round};
+use bank::Bank;
+use desk::write_reply;
+use engine::{Engine, Shut, ShutCause};
+use input::Reader;
+use outside::{Clock, Folder, Patterns, Sink, Source, write_all};
+use records::Reply;
+use site_text::List;
+use std::alloc::Global;
+
+/// The size of the journal's area, in bytes.
+const JOURNAL_BYTES: u64 = 268_435_456;
+
+/// What a run hands back.
+#[derive(Drop)]
+pub struct Outcome<B, P> {
+    /// 0 where the input was read to its end and no answer was a fault or want of memory. Else what came first: 2 for a bad
+    /// journal, 3 for a fault of the store, 4 of the source, 5 of the sink, 7 for an input longer than
+    /// the budget, 9 for want of memory.
+    pub status: u8,
+    /// One for each answer that was written whole.
+    pub marks: List<Mark>,
+    pub bank: B,
+    pub patterns: P,
+}
+
+/// Answers the lines of an input until it ends, or a cause ends the run. An answer that is a fault of the store ends nothing.
+pub fn converse<B: Bank, P: Drop, I: Source, O: Sink>(
+    alloc: Global,
+    session: &mut Session<B, P>,
+    reader: &mut Reader,
+    input: &mut I,
+    output: &mut O,
+) -> Ending
+    requires marks { session.old.marks.items ≡ [] }
+    requires status { session.old.status ≡ 0 }
+    requires ready { session.old.engine.due ≡ false }
+    requires fresh { Begins reader.old.budget reader.old }
+    ensures session { (told : Bool) → (IsTrue told → IsTrue B.tells) → (stage : Stage) → StandsFor told B.view session.old.engine stage.world → session.old.moment ≡ stage.now
+        → IsSession asks_of (StandsFor told B.view session.new.engine) told session.old.engine.journal.size reader.old.budget (B.view session.new.engine.bank)
+        (seen I.left I.faults O.written O.faults B.faults B.view input.old output.old session.old.engine.bank)
+        (seen I.left I.faults O.written O.faults B.faults B.view input.new output.new session.new.engine.bank)
+        stage session.new.marks.items (first_of session.new.status (status_of result)) }
+    // Time goes on.
+    ensures passes { (told : Bool) → (IsTrue told → IsTrue B.tells) → (stage : Stage) → StandsFor told B.view session.old.engine stage.world → session.old.moment ≡ stage.now
+        → IsTrue told → Passes (B.view session.old.engine.bank) (B.view session.new.engine.bank) }
+    ensures size { session.new.engine.journal.size ≡ session.old.engine.journal.size }
+    ensures source_later { I.faults input.old ≤ I.faults input.new }
+    ensures sink_later { O.faults output.old ≤ O.faults output.new }
+    ensures bank_later { B.faults session.old.engine.bank ≤ B.faults session.new.engine.bank }
+    ensures source_beside { I.beside input.new ≡ I.beside input.old }
+    ensures sink_beside { O.beside output.new ≡ O.beside output.old }
+    ensures patterns { session.new.engine.patterns ≡ session.old.engine.patterns }
+{
+    'lines: loop {
+        match hear(alloc, reader, input) {
+            Heard::Skipped => {}
+            Heard::Asks(asked) => match one_round(alloc, session, asked, output) {
+                Some(ending) => return ending,
+                None => {}
+            },
+            Heard::Stopped(ending) => return ending,
+        }
+    }
+}
+
+/// The status of what ended a run.
+fn code(ending: Ending) -> u8
+    ensures { result ≡ status_of ending }
+{
+    match ending {
+        Ending::Ended => 0,
+        Ending::Closed => 0,
+        Ending::SourceFault => 4,
+        Ending::SinkFault => 5,
+        Ending::OverBudget => 7,
+        Ending::NoMemory => 9,
+    }
+}
+
+/// Answers a store that was not opened: of a bad journal its line is written.
+fn refuse<O: Sink>(alloc: Global, cause: ShutCause, output: &mut O) -> u8
+    ensures status { result ≡ status_of_shut cause }
+    ensures bytes { TellsRefusal (O.written output.old) (O.written output.new) (O.faults output.old) (O.faults output.new) cause }
+    ensures later { O.faults output.old ≤ O.faults output.new }
+    ensures beside { O.beside output.new ≡ O.beside output.old }
+{
+    let place = match cause {
+        ShutCause::BankFault => return 3,
+        ShutCause::NoMemory => return 9,
+        ShutCause::BadJournal(place) => place,
+    };
+    if let Ok(text) = write_reply(alloc, &Reply::BadJournal(place)) {
+        let _ = write_all(output, text.as_slice());
+    }
+    2
+}
+
+/// What is handed back after a session.
+fn hand_back<B: Bank, P: Drop>(session: Session<B, P>, code: u8) -> Outcome<B, P>
+    ensures status { result.status ≡ first_of session.status code }
+    ensures marks { result.marks ≡ session.marks.items }
+    ensures bank { result.bank ≡ session.engine.bank }
+    ensures patterns { result.patterns ≡ session.engine.patterns }
+{
+    let Session {
+        engine,
+        marks,
+        status,
+        ..
+    } = session;
+    let (bank, patterns) = engine.close();
+    Outcome {
+        status: first_cause(status, code),
+        marks: List::from_vec(marks),
+        bank,
+        patterns,
+    }
+}
+
+/// Answers the lines of an input over a store, whose site is reopened from its journal. The run begins at the moment of the
+/// site's last step. At most `budget` bytes are read, and one beyond to see that there are more. The bank and the patterns
+/// are handed back at every status.
+pub fn run_lines<B: Bank, C: Clock, F: Folder, P: Patterns, I: Source, O: Sink>(
+    alloc: Global,
+    bank: B,
+    clock: &mut C,
+    folder: &mut F,
+    patterns: P,
+    input: &mut I,
+    output: &mut O,
+    budget: u64,
+) -> Outcome<B, P>
+    // Over a store that is settled for a history, or over any store that tells nothing: what was read, asked, answered and
+    // written, what ended the run, and what each crash meanwhile may leave.
+    ensures outcome { (told : Bool) → (IsTrue told → IsTrue B.tells) → (before : Seq HistoryStep) → (IsTrue told → IsSettled journal_bytes (B.view bank) before)
+        → IsOutcome told budget (B.view bank) (B.view result.bank)
+        (seen I.left I.faults O.written O.faults B.faults B.view input.old output.old bank)
+        (seen I.left I.faults O.written O.faults B.faults B.view input.new output.new result.bank)
+        before result.marks result.status }
+    // The causes of the status, over any store, and what the statuses 0, 2 and 7 mean.
+    ensures status { HasStatus B.tells ((B.view bank).content 0) budget
+        (seen I.left I.faults O.written O.faults B.faults B.view input.old output.old bank)
+        (seen I.left I.faults O.written O.faults B.faults B.view input.new output.new result.bank)
+        result.status }
+    // The journal of a settled store is never bad.
+    ensures good { IsTrue B.tells → (before : Seq HistoryStep) → IsSettled journal_bytes (B.view bank) before → result.status ≢ 2 }
+    ensures patterns { result.patterns ≡ patterns }
+    ensures clock { clock.new ≡ clock.old }
+    ensures folder { folder.new ≡ folder.old }
+    ensures source_beside { I.beside input.new ≡ I.beside input.old }
+    ensures sink_beside { O.beside output.new ≡ O.beside output.old }
+{
+    let _ = clock;
+    let _ = folder;
+    let engine = match Engine::reopen(alloc, bank, patterns, JOURNAL_BYTES) {
+        Ok(engine) => engine,
+        Err(shut) => {
+            let Shut {
+                cause,
+                bank,
+                patterns,
+            } = shut;
+            let status = refuse(alloc, cause, output);
+            return Outcome {
+                status,
+                marks: List::new(alloc),
+                bank,
+                patterns,
+            };
+        }
+    };
+    let moment = engine.clock;
+    let mut session = Session {
+        engine,
+        moment,
+        marks: Vec::new(alloc),
+        status: 0,
+    };
+    let Ok(mut reader) = Reader::new(alloc, budget) else {
+        return hand_back(session, 9);
+    };
+    let ending = converse(alloc, &mut session, &mut reader, input, output);
+    hand_back(session, code(ending))
+}
