@@ -5,3 +5,7 @@ pub mod Hearings
 pub mod Responses
 pub mod OneRoundLaws
 pub mod Closing
+pub mod StatusCauses
+pub mod Statuses
+pub mod Refusals
+pub mod Handing
