@@ -104,7 +104,7 @@ module _ {B P : Type 0} (told : Bool) (faults : B → ℕ) (view : B → View) (
       → (size budget budget' moment : ℕ) (bank' : B) (marks marks' : List Mark) (status status' : ℕ) → size ≡ journal_bytes → closing.journal.size ≡ size → moment ≡ opening.clock
       → ((stage : Stage) → StandsFor told view opening stage.world → moment ≡ stage.now → IsTrue told → Passes (view opening.bank) (view closing.bank))
       → ((stage : Stage) → StandsFor told view opening stage.world → moment ≡ stage.now
-          → IsSession asks_of (StandsFor told view closing) told size budget' (view closing.bank) seen_open (seen_after closing.bank) stage marks status)
+      → IsSession asks_of (StandsFor told view closing) told size budget' (view closing.bank) seen_open (seen_after closing.bank) stage marks status)
       → budget' ≡ budget → bank' ≡ closing.bank → marks' ≡ marks → status' ≡ status
       → IsAnswered told budget (view bank) (view bank') seen_before (seen_after bank') before marks' status'
   handed reopened read settled sound fewer size budget budget' moment bank' marks marks' status status' is_size same_size at_clock passes session same_budget same_bank same_marks same_status =

@@ -151,7 +151,7 @@ pub fixed_run : (size : ℕ) (told : Bool) (stage : Stage) (rs : List Round) (mo
 fixed_run size told stage [] more rest run = tt
 fixed_run size told stage (x ∷ rs) more rest run =
     elim (nat_eq (cause_of x.reply) 0) as (λ b. nat_eq (cause_of x.reply) 0 ≡ b
-        → AreTold told (cond b (x ∷ calm rs) []) (machine_run size stage (take (length (cond b (x ∷ calm rs) [])) (x.asked ∷ (asked rs ++ more))))) [
+    → AreTold told (cond b (x ∷ calm rs) []) (machine_run size stage (take (length (cond b (x ∷ calm rs) [])) (x.asked ∷ (asked rs ++ more))))) [
       | true ↦ (λ e. here (eqb-true (cause_of x.reply) 0 e) (λ h. fixed_run size told x.after rs more h run.1))
       | false ↦ (λ e. tt)
     ] refl

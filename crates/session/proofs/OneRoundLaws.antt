@@ -28,7 +28,7 @@ pub made : {B P : Type 0} (told : Bool) (view : B → View) (engine engine' : En
     → mid ≡ marks → mark.answered ≡ length mid + 1 → ((w : World) → StandsFor told view engine' w → mark.steps ≡ length w.history) → (IsTrue told → mark.moment ≡ (view engine'.bank).moment)
     → Tells written written' faults faults' mid marks' end reply mark
     → (round : Round) × IsRound (StandsFor told view engine') told engine.journal.size (view engine.bank) (view engine'.bank) stage request
-        written written' faults faults' bank_faults bank_faults' marks marks' status status' end round × (now' ≡ round.after.now)
+    written written' faults faults' bank_faults bank_faults' marks marks' status status' end round × (now' ≡ round.after.now)
 made told view engine engine' stage request reply now' written written' faults faults' bank_faults bank_faults' marks mid marks' status status' end mark sound same_size turn cause counted same answered steps at_moment tells = (
   record { asked = request; reply = reply; after = turn.0; moment = mark.moment },
   record {

@@ -17,7 +17,7 @@ use Rattle.session.proofs.KeptLaws.{opening_read}
 use Rattle.session.proofs.StatusCauses.{by_bank, by_memory, by_bad_journal}
 
 -- A refusal by what shut the store.
-pub refusal_of : (old new : Outside) (tells : Bool) (journal : Content) (cause : ShutCause) (status : ℕ) → status ≡ status_of_shut cause
+refusal_of : (old new : Outside) (tells : Bool) (journal : Content) (cause : ShutCause) (status : ℕ) → status ≡ status_of_shut cause
     → (cause ≡ BankFault → Rose old.bank_faults new.bank_faults) → (IsTrue tells → TellsJournal journal_bytes journal cause)
     → TellsRefusal old.written new.written old.sink_faults new.sink_faults cause → Refusal old new tells journal status
 refusal_of old new tells journal BankFault status is rose bad told = inl (is, rose refl, told)
@@ -31,7 +31,7 @@ refusal_untold old new told tells journal status so (inr (inl r)) = inr (inl r)
 refusal_untold old new told tells journal status so (inr (inr r)) = inr (inr (r.0, r.1, λ t. r.2 (so t), r.3))
 
 -- The causes of the status of a store that was not opened.
-pub refused_status : (old new : Outside) (tells : Bool) (journal : Content) (budget status : ℕ) → Refusal old new tells journal status → HasStatus tells journal budget old new status
+refused_status : (old new : Outside) (tells : Bool) (journal : Content) (budget status : ℕ) → Refusal old new tells journal status → HasStatus tells journal budget old new status
 refused_status old new tells journal budget status (inl r) = by_bank tells journal budget old new status r.0 r.1
 refused_status old new tells journal budget status (inr (inl r)) = by_memory tells journal budget old new status r.0
 refused_status old new tells journal budget status (inr (inr r)) = by_bad_journal tells journal budget old new status r.1 (λ t. (r.0, r.2 t))
@@ -48,6 +48,18 @@ refused_outcome old new told tells entry store before marks status so read settl
   opening = λ t. opening_read journal_bytes entry store before (read (so t)) (settled t);
   settled = λ t. settled_after_reading journal_bytes entry store before (read (so t)) (settled t);
 }
+
+module _ (old new : Outside) (tells : Bool) (entry store : View) (cause : ShutCause) (status : ℕ) (is : status ≡ status_of_shut cause) (rose : cause ≡ BankFault → Rose old.bank_faults new.bank_faults)
+    (bad : IsTrue tells → TellsJournal journal_bytes (entry.content 0) cause) (written : TellsRefusal old.written new.written old.sink_faults new.sink_faults cause) where
+  -- What was handed back by a store that was shut.
+  pub shut_outcome : (told : Bool) (before : List HistoryStep) (marks : List Mark) → (IsTrue told → IsTrue tells) → (IsTrue tells → OnlyRead entry store) → (IsTrue told → IsSettled journal_bytes entry before)
+      → new.left ≡ old.left → new.source_faults ≡ old.source_faults → marks ≡ [] → IsRefused told entry store old new before marks status
+  shut_outcome told before marks so read settled unread no_read_failed no_marks =
+      refused_outcome old new told tells entry store before marks status so read settled unread no_read_failed no_marks (refusal_of old new tells (entry.content 0) cause status is rose bad written)
+
+  -- The causes of its status.
+  pub shut_status : (budget : ℕ) → HasStatus tells (entry.content 0) budget old new status
+  shut_status budget = refused_status old new tells (entry.content 0) budget status (refusal_of old new tells (entry.content 0) cause status is rose bad written)
 
 -- No refusal has status 1.
 pub refusal_exits : (old new : Outside) (tells : Bool) (journal : Content) (status : ℕ) → Refusal old new tells journal status → status ≡ 1 → ⊥
