@@ -1,5 +1,5 @@
 -- From the session of an engine to the session of a call.
-use Rattle.std.proofs.Common.{◌≡◌, inl, inr, ℕ, ◌≤◌, List, ◌++◌, refl, sym, ◌∙◌, subst, arith, Bool, Option, IsTrue}
+use Rattle.std.proofs.Common.{◌≡◌, inl, inr, ℕ, ◌≤◌, List, refl, sym, ◌∙◌, subst, arith, Bool, Option, IsTrue}
 use Rattle.bank.specs.Content.{Content}
 use Rattle.bank.specs.View.{View, IsSound, OnlyRead}
 use Rattle.input.specs.Reading.{Items}

@@ -7,8 +7,8 @@ use Rattle.bank.specs.View.{View}
 use Rattle.records.specs.declared.reply.Reply.TheVariants.{BadJournal}
 use Rattle.desk.specs.Texts.{text_of}
 use Rattle.site_history.specs.Steps.{HistoryStep}
-use Rattle.site_history.specs.Worlds.{World, new_world, IsFound}
-use Rattle.site_history.specs.Images.{ReadsNear, IsSettled, IsSettledAs}
+use Rattle.site_history.specs.Worlds.{new_world, IsFound}
+use Rattle.site_history.specs.Images.{IsSettled, IsSettledAs}
 use Rattle.site_history.specs.Journals.{IsBadJournal}
 use Rattle.session.specs.Asking.{asks_of}
 use Rattle.session.specs.Rounds.{Stage}
