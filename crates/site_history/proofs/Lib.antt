@@ -8,3 +8,17 @@ pub mod DistinctInodes
 pub mod Commits
 pub mod JournalLaws
 pub mod Reopenings
+pub mod Storing
+pub mod FileReads
+pub mod FileLaws
+pub mod ByteLaws
+pub mod HeldRuns
+pub mod Finds
+pub mod SiteLaws
+pub mod Edits
+pub mod RunRanges
+pub mod StepRanges
+pub mod Puts
+pub mod Accesses
+pub mod Turns
+pub mod Answered
