@@ -7,13 +7,13 @@ use Rattle.bank.specs.View.{View}
 use Rattle.records.specs.declared.reply.Reply.TheVariants.{BadJournal}
 use Rattle.desk.specs.Texts.{text_of}
 use Rattle.site_history.specs.Steps.{HistoryStep}
-use Rattle.site_history.specs.Worlds.{World, new_world, IsFound}
-use Rattle.site_history.specs.Images.{ReadsNear, IsSettled, IsSettledAs}
+use Rattle.site_history.specs.Worlds.{new_world, IsFound}
+use Rattle.site_history.specs.Images.{IsSettled, IsSettledAs}
 use Rattle.site_history.specs.Journals.{IsBadJournal}
 use Rattle.session.specs.Asking.{asks_of}
-use Rattle.session.specs.Rounds.{Stage}
+use Rattle.session.specs.Rounds.{Stage, stage_after}
 use Rattle.session.specs.Machine.{output_of}
-use Rattle.session.specs.Kept.{IsOpening}
+use Rattle.session.specs.Kept.{IsOpening, AreHeld}
 use Rattle.session.specs.Session.{Outside, IsSession}
 use Rattle.session.specs.declared.kept.Mark.{Mark}
 
@@ -33,7 +33,7 @@ Refusal old new tells journal status =
     ⊎ ((place : ℕ) × (status ≡ 2) × (IsTrue tells → IsBadJournal journal_bytes journal place) × ((cut : List ℕ) × (lost : List ℕ) × (text_of (BadJournal place) ≡ cut ++ lost) × Appends old.written new.written cut
     × ((lost ≡ []) ⊎ (cut ≡ []) ⊎ Rose old.sink_faults new.sink_faults)))
 
--- The store was not opened, and nothing was read. It is as settled as before.
+-- The store was not opened, or no memory was found to read a line; nothing was read. It is as settled as before.
 pub record IsRefused (tells : Bool) (entry store : View) (old new : Outside) (before : List HistoryStep) (marks : List Mark) (status : ℕ) : Type 0 where
   pub unread : new.left ≡ old.left
   pub no_read_failed : new.source_faults ≡ old.source_faults
@@ -51,6 +51,8 @@ pub record IsAnswered (tells : Bool) (budget : ℕ) (entry store : View) (old ne
   pub opened : ℕ
   pub opening : IsTrue tells → IsOpening journal_bytes store entry.moment opened before
   pub session : IsSession asks_of (λ w. IsTrue tells → IsSettledAs journal_bytes store w) tells journal_bytes budget store (record old { moment = opened }) new (stage_of found) marks status
+  -- each acknowledged step is held by whatever a crash left since its mark
+  pub acknowledged : IsTrue tells → AreHeld journal_bytes store (stage_after (stage_of found) (session.told ++ session.untold)).world.history marks
   -- with status 0 what was written is the machine's output for all that was read
   pub whole : IsTrue tells → status ≡ 0 → IfSome old.left (λ bytes. (length bytes ≤ budget) × Appends old.written new.written (output_of journal_bytes (stage_of found) (asks_of bytes true)))
 
@@ -61,8 +63,8 @@ IsOutcome tells budget entry store old new before marks status =
 
 -- The causes of a status, over any store, and what the statuses 0 and 7 mean. `journal` is what stands in the journal's area.
 pub record HasStatus (tells : Bool) (journal : Content) (budget : ℕ) (old new : Outside) (status : ℕ) : Type 0 where
-  -- a bad journal: at opening, or at a reopening, which comes after a fault of the store alone
-  pub bad_journal : status ≡ 2 → (IsTrue tells → (place : ℕ) × IsBadJournal journal_bytes journal place) ⊎ Rose old.bank_faults new.bank_faults
+  -- a bad journal is met at opening; at a reopening, which comes after a fault of the store alone, that fault is the first cause
+  pub bad_journal : status ≡ 2 → IsTrue tells → (place : ℕ) × IsBadJournal journal_bytes journal place
   pub bank : status ≡ 3 → Rose old.bank_faults new.bank_faults
   pub source : status ≡ 4 → Rose old.source_faults new.source_faults
   pub sink : status ≡ 5 → Rose old.sink_faults new.sink_faults
