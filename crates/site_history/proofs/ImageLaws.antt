@@ -1,5 +1,5 @@
 -- What images read as: where each of them reads as one history, and where two of them agree.
-use Rattle.std.proofs.Common.{◌≡◌, ◌≢◌, ℕ, ◌+◌, ◌-◌, ◌<◌, Bool, true, false, cond, ◌==◌, List, [], ◌∷◌, refl, sym, ◌∙◌, ap, subst, arith}
+use Rattle.std.proofs.Common.{◌≡◌, ◌≢◌, inl, ℕ, ◌+◌, ◌-◌, ◌<◌, Bool, true, false, cond, ◌==◌, List, [], ◌∷◌, refl, sym, ◌∙◌, ap, subst, arith}
 use Rattle.std.proofs.lemmas.Bool.{eq-eqb, eqb-true}
 use Rattle.bank.specs.Content.{Content, Image, Stands, Same}
 use Rattle.bank.specs.View.{View, IsImage, IsSound}
@@ -7,7 +7,7 @@ use Rattle.bank.proofs.Spans.{Stands-same}
 use Rattle.journal.proofs.Held.{agreeing_holds, fresh_holds}
 use Rattle.site_history.specs.Steps.{HistoryStep}
 use Rattle.site_history.specs.Histories.{after, IsHistory}
-use Rattle.site_history.specs.Images.{Extent, extents, AllStand, written_forms, Reads, SameAt, AgreeingReadAlike}
+use Rattle.site_history.specs.Images.{Extent, extents, AllStand, written_forms, Reads, SameAt, AgreeingReadAlike, IsSettled}
 use Rattle.site_history.specs.Pinned.{StandInAll, IsPinned}
 
 -- An image with this content in one area, and elsewhere what a read gives.
@@ -92,3 +92,10 @@ stand_in_fewer u v (e ∷ es) fewer h = ((λ c left. h.0 c (fewer e.area c left)
 -- An image whose journal begins with a closed gate reads as the history of no step.
 pub fresh_reads : (size : ℕ) (c : Image) → c 0 0 ≢ 1 → Reads size c []
 fresh_reads size c shut = record { history = tt; records = fresh_holds (c 0) size shut; bytes = tt }
+
+-- A store of which each image does is settled for it.
+pub fresh_settled : (size : ℕ) (v : View) → IsSound v → ((c : Image) → IsImage v c → c 0 0 ≢ 1) → IsSettled size v []
+fresh_settled size v sound shut = record {
+  now = fresh_reads size v.content (shut v.content sound.reads_as_image);
+  each = λ c image. inl (fresh_reads size c (shut c image));
+}

@@ -3,4 +3,4 @@
 
 mod images;
 
-pub use images::agreeing_read_alike;
+pub use images::{agreeing_read_alike, fresh_store_is_settled};
