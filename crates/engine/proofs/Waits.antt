@@ -40,11 +40,14 @@ module _ {B P : Type 0} (told : Bool) (view : B → View) (old new : Engine B P)
     owed_in_time = λ made e. absurd (let no : None ≡ Some made = e in cc);
     range = small;
     due = due_then;
-    in_step = λ d. (refl, let s = (stands.in_step due).1 in record {
-      keeps = subst (λ (x : SiteFiles). Keeps x (after w.history).fields) (sym site) s.keeps;
-      count = ap (λ (j : JournalState). j.count) journal ∙ s.count;
-      place = ap (λ (j : JournalState). j.place) journal ∙ s.place;
-    });
+    in_step = λ d. (
+      refl,
+      let s = (stands.in_step due).1 in record {
+        keeps = subst (λ (x : SiteFiles). Keeps x (after w.history).fields) (sym site) s.keeps;
+        count = ap (λ (j : JournalState). j.count) journal ∙ s.count;
+        place = ap (λ (j : JournalState). j.place) journal ∙ s.place;
+      },
+    );
     images = λ t c image. still_reads c (stands.images t c (subst (λ (b : B). IsImage (view b) c) bank image));
   }
     where
