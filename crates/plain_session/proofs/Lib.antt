@@ -1,3 +1,3 @@
-pub mod Puts
+pub mod Lists
 pub mod Runs
-pub mod Written
+pub mod Turning

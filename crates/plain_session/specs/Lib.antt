@@ -1,2 +1,2 @@
-pub mod Plain
-pub mod Requests
+pub mod Site
+pub mod World

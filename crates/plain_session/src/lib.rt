@@ -1,14 +1,19 @@
 //! What a run writes where nothing fails, as a plain slow program, which tests compare with.
 #![tactic(auto)]
 
-mod lines;
+mod answer;
+mod contents;
+mod copies;
+mod effects;
+mod files;
 mod put;
 mod rule;
+mod site;
 mod world;
 
-pub use lines::plain_output;
-pub use put::plain_put;
-pub use world::PlainWorld;
-
-#[cfg(test)]
-mod tests;
+pub use answer::answer_to;
+pub use effects::effect;
+pub use put::{next_after, stored_file};
+pub use rule::put_rule;
+pub use site::{PlainAnswer, PlainBytes, PlainPut, PlainSite, PlainStep};
+pub use world::{PlainWorld, plain_turn};
