@@ -1,7 +1,7 @@
 -- What a crash at any moment leaves.
 use Rattle.std.specs.Prelude.{◌⊎◌, ◌≤◌, ℕ, List, [], ◌∷◌}
 use Rattle.bank.specs.Content.{Image}
-use Rattle.bank.specs.View.{View}
+use Rattle.bank.specs.View.{View, LeavesOnly}
 use Rattle.site_history.specs.Steps.{HistoryStep}
 use Rattle.site_history.specs.Worlds.{World}
 use Rattle.site_history.specs.Images.{ReadsAs, ReadsNear}
@@ -21,3 +21,7 @@ AreKept size v from w (round ∷ rounds) =
 pub record IsOpening (size : ℕ) (v : View) (from opened : ℕ) (before : List HistoryStep) : Type 0 where
   pub later : from ≤ opened
   pub images : (c : Image) → v.left_since from c → v.left_since opened c ⊎ ReadsNear size before c
+
+-- Time goes on from the one to the other: an image since an earlier moment is one from before, or one of this time.
+abbrev pub Passes : View → View → Type 0
+Passes old new = LeavesOnly old new (λ c. Unit {0})

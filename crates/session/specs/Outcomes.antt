@@ -33,7 +33,7 @@ Refusal old new tells journal status =
     ⊎ ((place : ℕ) × (status ≡ 2) × (IsTrue tells → IsBadJournal journal_bytes journal place) × ((cut : List ℕ) × (lost : List ℕ) × (text_of (BadJournal place) ≡ cut ++ lost) × Appends old.written new.written cut
     × ((lost ≡ []) ⊎ (cut ≡ []) ⊎ Rose old.sink_faults new.sink_faults)))
 
--- The store was not opened, and nothing was read. It is as settled as before.
+-- The store was not opened, or no memory was found to read a line; nothing was read. It is as settled as before.
 pub record IsRefused (tells : Bool) (entry store : View) (old new : Outside) (before : List HistoryStep) (marks : List Mark) (status : ℕ) : Type 0 where
   pub unread : new.left ≡ old.left
   pub no_read_failed : new.source_faults ≡ old.source_faults
@@ -61,8 +61,8 @@ IsOutcome tells budget entry store old new before marks status =
 
 -- The causes of a status, over any store, and what the statuses 0 and 7 mean. `journal` is what stands in the journal's area.
 pub record HasStatus (tells : Bool) (journal : Content) (budget : ℕ) (old new : Outside) (status : ℕ) : Type 0 where
-  -- a bad journal: at opening, or at a reopening, which comes after a fault of the store alone
-  pub bad_journal : status ≡ 2 → (IsTrue tells → (place : ℕ) × IsBadJournal journal_bytes journal place) ⊎ Rose old.bank_faults new.bank_faults
+  -- a bad journal is met at opening; at a reopening, which comes after a fault of the store alone, that fault is the first cause
+  pub bad_journal : status ≡ 2 → IsTrue tells → (place : ℕ) × IsBadJournal journal_bytes journal place
   pub bank : status ≡ 3 → Rose old.bank_faults new.bank_faults
   pub source : status ≡ 4 → Rose old.source_faults new.source_faults
   pub sink : status ≡ 5 → Rose old.sink_faults new.sink_faults
