@@ -1,2 +1,3 @@
 pub mod Site
 pub mod World
+pub mod Stage

@@ -11,7 +11,7 @@ use crate::files::file_at;
 use crate::put::{inode_for, put_made};
 use crate::rule::put_rule;
 use crate::site::{PlainAnswer, PlainBytes, PlainSite, PlainStep};
-use records::{Event, FileRec, LineRefusal, Reply, Rule, StepKind, Step};
+use records::{Event, FileRec, LineRefusal, Reply, Rule, Step, StepKind};
 use site_text::Bytes;
 use std::alloc::{AllocError, Global};
 

@@ -29,11 +29,7 @@ pub fn held_runs(alloc: Global, files: &[FileRec]) -> Result<Vec<Run>, AllocErro
 }
 
 /// Puts an item in a place that was found, or else behind the others.
-pub fn put_at<T: Drop>(
-    items: &mut Vec<T>,
-    place: Option<usize>,
-    item: T,
-) -> Result<(), AllocError>
+pub fn put_at<T: Drop>(items: &mut Vec<T>, place: Option<usize>, item: T) -> Result<(), AllocError>
     requires { IfSome place (λ at. at < length items.old.items) }
     ensures { OnOk result (items.new.items ≡ option_map_or (λ at. slice_set items.old.items at item) place (items.old.items ++ item ∷ [])) }
 {
