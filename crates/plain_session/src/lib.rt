@@ -13,11 +13,7 @@ mod site;
 mod stage;
 mod world;
 
-pub use answer::answer_to;
-pub use effects::effect;
 pub use lines::plain_output;
-pub use put::{next_after, stored_file};
-pub use rule::put_rule;
-pub use site::{PlainAnswer, PlainBytes, PlainPut, PlainSite, PlainStep};
-pub use stage::PlainStage;
-pub use world::{PlainWorld, plain_turn};
+
+#[cfg(test)]
+mod tests;
