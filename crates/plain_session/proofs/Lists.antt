@@ -17,6 +17,7 @@ put_in test new (x ∷ xs) = cond (test x) (new ∷ xs) (x ∷ put_in test new x
 abbrev pub put_at : {X : Type 0} → X → List X → Option ℕ → List X
 put_at new xs place = option_map_or (λ at. set xs at new) place (xs ++ new ∷ [])
 
+-- the order of two numbers is that of the next ones
 less_more : (n m : ℕ) → nat_lt n m ≡ nat_lt (suc n) (suc m)
 less_more n m = by_test (nat_lt n m) refl
   where
@@ -24,6 +25,7 @@ less_more n m = by_test (nat_lt n m) refl
     by_test true e = sym (lt-ltb (suc n) (suc m) (omega (arith, ltb-true n m e)))
     by_test false e = sym (le-ltb (suc n) (suc m) (omega (arith, ltb-false n m e)))
 
+-- the place that a search finds is the one that an item is put in
 found_at : {X : Type 0} (test : X → Bool) (new : X) (xs : List X) → put_at new xs (position test xs) ≡ put_in test new xs
 unfolding put_in
 found_at test new [] = refl
@@ -43,21 +45,23 @@ found_at test new (x ∷ xs) = by_test (test x) (found_at test new xs)
         one_more n m is e = subst (λ k. put_at new (x ∷ xs) (cond (nat_lt k (length (x ∷ xs))) (Some k) None) ≡ x ∷ put_in test new xs) (sym is)
             (subst (λ c. put_at new (x ∷ xs) (cond c (Some (suc n)) None) ≡ x ∷ put_in test new xs) (less_more n (length xs)) (behind n (nat_lt n (length xs)) e))
 
+-- a file is put so, by its inode
 file_put_in : (new : FileRec) (files : List FileRec) → put_in (λ (f : FileRec). f.inode == new.inode) new files ≡ with_file new files
 unfolding put_in
 file_put_in new [] = refl
 file_put_in new (file ∷ files) = ap (λ (l : List FileRec). cond (file.inode == new.inode) (new ∷ files) (file ∷ l)) (file_put_in new files)
 
--- a file
+-- what is left of a list of files, given the place that was found
 pub file-put : (new : FileRec) (files : List FileRec) (place : Option ℕ) → place ≡ position (λ (f : FileRec). f.inode == new.inode) files → put_at new files place ≡ with_file new files
 file-put new files place e = ap (λ (o : Option ℕ). put_at new files o) e ∙ found_at (λ (f : FileRec). f.inode == new.inode) new files ∙ file_put_in new files
 
+-- the bytes of a file are put so, by its inode
 bytes_put_in : (new : FileBytes) (contents : List FileBytes) → put_in (λ (f : FileBytes). f.inode == new.inode) new contents ≡ with_bytes new contents
 unfolding put_in
 bytes_put_in new [] = refl
 bytes_put_in new (file ∷ contents) = ap (λ (l : List FileBytes). cond (file.inode == new.inode) (new ∷ contents) (file ∷ l)) (bytes_put_in new contents)
 
--- the bytes of a file
+-- what is left of a list of bytes, given the place that was found
 pub bytes-put : (new : FileBytes) (contents : List FileBytes) (place : Option ℕ) → place ≡ position (λ (f : FileBytes). f.inode == new.inode) contents
     → put_at new contents place ≡ with_bytes new contents
 bytes-put new contents place e = ap (λ (o : Option ℕ). put_at new contents o) e ∙ found_at (λ (f : FileBytes). f.inode == new.inode) new contents ∙ bytes_put_in new contents
@@ -69,11 +73,6 @@ changed_to change (suc i) [] = []
 changed_to change (suc i) (x ∷ xs) = change x ∷ changed_to change i xs
 
 module _ {X : Type 0} (change : X → X) where
-  pub length-changed_to : (i : ℕ) (xs : List X) → length (changed_to change i xs) ≡ length xs
-  length-changed_to zero xs = refl
-  length-changed_to (suc i) [] = refl
-  length-changed_to (suc i) (x ∷ xs) = ap (λ n. suc n) (length-changed_to i xs)
-
   -- the next one is changed
   pub changed-more : (i j : ℕ) (xs : List X) (d : X) → j ≡ i + 1 → i < length xs
       → set (changed_to change i xs) i (change (get_or (changed_to change i xs) i d)) ≡ changed_to change j xs
@@ -84,7 +83,7 @@ module _ {X : Type 0} (change : X → X) where
   changed-more (suc i) zero (x ∷ xs) d e lt = absurd (omega (arith, e))
   changed-more (suc i) (suc j) (x ∷ xs) d e lt = ap (λ l. change x ∷ l) (changed-more i j xs d (omega (arith, e)) (omega (arith, lt)))
 
-  -- all were
+  -- where there are no more, all are changed
   pub changed-all : (i : ℕ) (xs : List X) → length xs ≤ i → changed_to change i xs ≡ map change xs
   changed-all zero [] le = refl
   changed-all zero (x ∷ xs) le = absurd (omega (arith, le))

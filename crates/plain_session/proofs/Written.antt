@@ -17,6 +17,7 @@ use Rattle.session.specs.Outcomes.{journal_bytes}
 use Rattle.plain_session.specs.declared.stage.PlainStage.{PlainStage}
 use Rattle.plain_session.specs.Stage.{ShowsStage, Tells, stage_after, Wrote}
 
+-- what is written for requests and for more is what is written for each, joined
 output_joined : (stage : Stage) (requests more : List Request)
     → output_of journal_bytes stage (requests ++ more) ≡ output_of journal_bytes stage requests ++ output_of journal_bytes (stage_after stage requests) more
 output_joined stage [] more = refl
@@ -25,6 +26,7 @@ output_joined stage (r ∷ requests) more =
     ∙ sym (append_assoc (text_of (machine_tells journal_bytes stage r).reply) (output_of journal_bytes (machine_tells journal_bytes stage r).after requests)
     (output_of journal_bytes (stage_after (machine_tells journal_bytes stage r).after requests) more))
 
+-- the stage after requests and more
 after_joined : (stage : Stage) (requests more : List Request) → stage_after stage (requests ++ more) ≡ stage_after (stage_after stage requests) more
 after_joined stage [] more = refl
 after_joined stage (r ∷ requests) more = after_joined (machine_tells journal_bytes stage r).after requests more
@@ -52,7 +54,7 @@ one before now stage request reply plain t e = record {
   stage_shown = t.stage;
 }
 
--- what a kept line asks
+-- a kept line asks nothing, or one thing
 pub skips : (line : List ℕ) → is_skipped line ≡ true → requests_of (Kept line) ≡ []
 skips line e = ap (λ (b : Bool). cond b [] (asked_of line ∷ [])) e
 

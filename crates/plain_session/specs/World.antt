@@ -1,9 +1,10 @@
 -- What a plain world shows of a world.
-use Rattle.std.specs.Prelude.{◌≡◌, ℕ, ◌+◌, ◌≤◌, ◌<◌, ◌^◌, length, Option, Some, None}
+use Rattle.std.specs.Prelude.{◌≡◌, ◌+◌, ◌≤◌, ◌<◌, ◌^◌, length, Option, Some, None}
 use Rattle.records.specs.Written.{written, InRange}
 use Rattle.site_history.specs.Steps.{HistoryStep, effect}
 use Rattle.site_history.specs.Histories.{after, IsHistory, journal_length}
 use Rattle.site_history.specs.Worlds.{World, at}
+use Rattle.session.specs.Outcomes.{journal_bytes}
 use Rattle.plain_session.specs.Site.{fields_of, site_of, CanMake}
 use Rattle.plain_session.specs.declared.world.PlainWorld.{PlainWorld}
 
@@ -13,7 +14,7 @@ pub record Shows (plain : PlainWorld) (w : World) : Type 0 where
   pub history : IsHistory w.history
   pub site : site_of plain.site ≡ after w.history
   pub journal : plain.journal ≡ journal_length w.history
-  pub within : plain.journal ≤ 268435456
+  pub within : plain.journal ≤ journal_bytes
   pub in_time : plain.site.moment ≤ plain.clock
   pub range : plain.clock < 2 ^ 40
 
@@ -21,7 +22,7 @@ pub record Shows (plain : PlainWorld) (w : World) : Type 0 where
 pub record CanTakeOne (plain : PlainWorld) (made : HistoryStep) : Type 0 where
   pub range : InRange made.step
   pub counts : CanMake (fields_of plain.site) made.step.kind
-  pub fits : plain.journal + 6 + length (written made.step) ≤ 268435456
+  pub fits : plain.journal + 6 + length (written made.step) ≤ journal_bytes
 
 abbrev pub CanTake : PlainWorld → Option HistoryStep → Type 0
 CanTake plain None = Unit {0}

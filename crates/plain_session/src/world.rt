@@ -5,6 +5,7 @@ ghost use Rattle.records.specs.Written.{written, InRange};
 ghost use Rattle.site_history.specs.Steps.{HistoryStep, effect};
 ghost use Rattle.site_history.specs.Histories.{journal_length};
 ghost use Rattle.site_history.specs.Worlds.{World, at, moment_of, has_room, answer_in, with_step};
+ghost use Rattle.session.specs.Outcomes.{journal_bytes};
 ghost use Rattle.plain_session.specs.Site.{site_of};
 ghost use Rattle.plain_session.specs.World.{Shows, CanTake, Takes};
 
@@ -46,8 +47,8 @@ fn written_bytes(alloc: Global, step: &Step) -> Result<u64, AllocError>
 
 // Whether a journal of this length has room for the record of a written form of so many bytes, and the closed gate behind it.
 fn has_room_for(journal: u64, bytes: u64) -> bool
-    requires { journal ≤ 268435456 }
-    ensures { result ≡ nat_le (journal + 6 + bytes) 268435456 }
+    requires { journal ≤ journal_bytes }
+    ensures { result ≡ nat_le (journal + 6 + bytes) journal_bytes }
 {
     let room = JOURNAL_BYTES - journal;
     room >= 6 && bytes <= room - 6
@@ -55,9 +56,9 @@ fn has_room_for(journal: u64, bytes: u64) -> bool
 
 // Whether a journal of this length has room for the record of a further step and the closed gate behind it.
 fn has_room(alloc: Global, journal: u64, step: &Option<PlainStep>) -> Result<bool, AllocError>
-    requires within { journal ≤ 268435456 }
+    requires within { journal ≤ journal_bytes }
     requires range { IfSome step.now (λ (made : HistoryStep). InRange made.step) }
-    ensures { (history : Seq HistoryStep) → journal ≡ journal_length history → IfOk result (λ fits. fits ≡ has_room 268435456 history step.now) }
+    ensures { (history : Seq HistoryStep) → journal ≡ journal_length history → IfOk result (λ fits. fits ≡ has_room journal_bytes history step.now) }
 {
     match step {
         None => Ok(true),
@@ -78,7 +79,7 @@ fn answer_in(
     requires shown { (w : World) × Shows world.now w }
     requires later { world.now.clock ≤ moment }
     requires range { moment < 2 ^ 40 }
-    ensures { (w : World) → Shows world.now w → IfOk result (λ answer. answer ≡ answer_in 268435456 w.history moment event.now) }
+    ensures { (w : World) → Shows world.now w → IfOk result (λ answer. answer ≡ answer_in journal_bytes w.history moment event.now) }
 {
     let answer = answer_to(alloc, &world.site, moment, event)?;
     if has_room(alloc, world.journal, &answer.step)? {
@@ -122,8 +123,8 @@ pub fn plain_turn(
     requires shown { (w : World) × Shows world.old w }
     requires later { world.old.clock ≤ moment }
     requires range { moment < 2 ^ 40 }
-    ensures reply { (w : World) → Shows world.old w → IfOk result (λ reply. reply ≡ (answer_in 268435456 w.history moment event.now).reply) }
-    ensures world { (w : World) → Shows world.old w → OnOk result (Shows world.new (at (with_step w.history (answer_in 268435456 w.history moment event.now).step) moment)) }
+    ensures reply { (w : World) → Shows world.old w → IfOk result (λ reply. reply ≡ (answer_in journal_bytes w.history moment event.now).reply) }
+    ensures world { (w : World) → Shows world.old w → OnOk result (Shows world.new (at (with_step w.history (answer_in journal_bytes w.history moment event.now).step) moment)) }
 {
     let answer = answer_in(alloc, world, moment, event)?;
     let PlainAnswer { reply, step } = answer;

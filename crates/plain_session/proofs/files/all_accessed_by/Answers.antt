@@ -1,7 +1,7 @@
-use Rattle.std.proofs.Common.{◌≡◌, ℕ, ◌∙◌, ◌<◌, ◌+◌, ap, subst, refl, sym, set, arith, get_or, length, List}
+use Rattle.std.proofs.Common.{◌≡◌, ℕ, ◌∙◌, ◌<◌, ◌+◌, ap, refl, set, arith, get_or, length, List}
 use Rattle.records.specs.declared.file.FileRec.{FileRec}
 use Rattle.site_history.specs.Steps.{accessed_by}
-use Rattle.plain_session.proofs.Lists.{changed_to, length-changed_to, changed-more, changed-all}
+use Rattle.plain_session.proofs.Lists.{changed_to, changed-more, changed-all}
 use Rattle.plain_session.proofs.files.all_accessed_by.Goals as goal
 
 -- one file more is marked

@@ -1,4 +1,4 @@
-use Rattle.std.proofs.Common.{◌≡◌, ◌∙◌, sym}
+use Rattle.std.proofs.Common.{◌∙◌}
 use Rattle.plain_session.proofs.Turning.{answer_in_range}
 use Rattle.plain_session.proofs.world.answer_in.Goals as goal
 

@@ -1,4 +1,4 @@
-use Rattle.std.proofs.Common.{◌≡◌, ◌∙◌, sym}
+use Rattle.std.proofs.Common.{◌∙◌}
 use Rattle.plain_session.proofs.Turning.{answer_taken, turned}
 use Rattle.plain_session.proofs.world.plain_turn.Goals as goal
 
