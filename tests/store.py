@@ -5,6 +5,7 @@ Run after `rt ci`, which leaves the program in crates/samq/out/. The expected by
 """
 import os
 import random
+import shutil
 import signal
 import subprocess
 import sys
@@ -184,6 +185,46 @@ def killed():
             check(f"killed {turn}: after {acknowledged} answers", (code, kept), (0, True))
 
 
+def under_calls(top, folder, given, **more):
+    """Runs the program over the library that notes its calls; gives what it answered and the calls, each as its words."""
+    library, notes = os.path.join(top, "calls.so"), os.path.join(top, "calls")
+    if not os.path.exists(library):
+        source = os.path.join(TOP, "tests", "calls.c")
+        subprocess.run(["cc", "-O1", "-shared", "-fPIC", "-o", library, source, "-ldl"], check=True)
+    names = dict(os.environ, LD_PRELOAD=library, CALLS=notes, **more)
+    done = subprocess.run([SAMQ, "run", folder], input=given, stdout=subprocess.PIPE, env=names, timeout=60)
+    with open(notes) as file:
+        return done.stdout, [line.split(" ") for line in file.read().splitlines()]
+
+
+def answers_after_syncs():
+    """The calls of the store and of the output, numbered together: an answer goes out behind the last sync of its step."""
+    with tempfile.TemporaryDirectory() as top:
+        given = b"put /a u g hi\nput /a u g ho\ncat /a\nrm /a\n"
+        out, calls = under_calls(top, os.path.join(top, "site"), given)
+        check("answers", out, b"ok 1\nok 1\nbytes 2\nho\nok 1\n")
+        made = [(words[0], words[1]) for words in calls if words[1] in ("0", "1", "answer")]
+        opening = [("sync", "0")] if made[:1] == [("sync", "0")] else []
+        record = [("write", "0"), ("sync", "0"), ("write", "0"), ("sync", "0"), ("write", "answer")]
+        put = [("write", "1"), ("sync", "1")] + record
+        check("calls in order", made, opening + put + put + record + record)
+
+
+def killed_at_each_call():
+    """A process is killed before each of its calls: what it acknowledged is there, and at most one line more."""
+    script = [b"put /f1 u g one", b"put /f2 u g two", b"put /f1 u g three", b"rm /f2", b"put /f3 u g " + b"x" * 4000, b"rm /f1"]
+    given = b"\n".join(script) + b"\n"
+    with tempfile.TemporaryDirectory() as top:
+        _, calls = under_calls(top, os.path.join(top, "whole"), given)
+        for number_of_call in range(1, len(calls) + 1):
+            folder = os.path.join(top, str(number_of_call))
+            out, _ = under_calls(top, folder, given, CALLS_KILL=str(number_of_call))
+            acknowledged = out.count(b"\n")
+            code, files = contents(folder)
+            kept = files in (state_after(script[:acknowledged]), state_after(script[:acknowledged + 1]))
+            check(f"killed at call {number_of_call}: after {acknowledged} answers", (code, kept), (0, True))
+
+
 def words():
     for given in ([], ["run"], ["run", "a", "b"], ["walk", "a"], ["talk", "a"]):
         code, out, err = run(given, b"put /a u g hi\n")
@@ -217,6 +258,11 @@ def main():
         return 0
     for test in (first_put, replaced_and_removed, several_puts, bad_journal, no_space, killed, words, locked, no_folder):
         test()
+    if shutil.which("cc"):
+        answers_after_syncs()
+        killed_at_each_call()
+    else:
+        print("skipped the tests over numbered calls: no C compiler")
     print(f"{passed} passed, {failed} failed")
     return 1 if failed else 0
 

@@ -2,3 +2,6 @@ pub mod Lines
 pub mod Cuts
 pub mod Facts
 pub mod MadeBytes
+pub mod WordCuts
+pub mod WordLaws
+pub mod LineLaws

@@ -2,6 +2,7 @@
 #![tactic(auto)]
 
 mod commands;
+mod laws;
 mod line;
 mod made;
 mod names;
@@ -10,6 +11,7 @@ mod reply;
 mod reports;
 mod words;
 
+pub use laws::each_line_says_one_thing;
 pub use read::{is_skipped, read_line};
 pub use reply::write_reply;
 

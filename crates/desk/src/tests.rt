@@ -241,78 +241,43 @@ fn skipped_lines(rt: HostRuntime) {
     assert!(rt; refused);
 }
 
-fn asks(alloc: Global, line: &[u8], wanted: &Asked) -> bool {
-    match (read_line(alloc, line), wanted) {
-        (Ok(Asked::At(moment)), Asked::At(at)) => moment == *at,
-        (Ok(Asked::Configure), Asked::Configure) => true,
-        (Ok(Asked::One(asked)), Asked::One(event)) => is_same(&asked, event),
+fn asks_moment(alloc: Global, line: &[u8], moment: u64) -> bool {
+    match read_line(alloc, line) {
+        Ok(Asked::At(at)) => at == moment,
         _ => false,
     }
 }
 
-fn is_same(asked: &Event, event: &Event) -> bool {
-    match (asked, event) {
-        (
-            Event::Read { path, upto },
-            Event::Read {
-                path: of,
-                upto: most,
-            },
-        ) => { path.as_slice() == of.as_slice() && upto == most }
-        (Event::Remove { path }, Event::Remove { path: of }) => path.as_slice() == of.as_slice(),
+fn asks_read(alloc: Global, line: &[u8], path: &[u8], most: u32) -> bool {
+    match read_line(alloc, line) {
+        Ok(Asked::One(Event::Read { path: of, upto })) => of.as_slice() == path && upto == most,
+        _ => false,
+    }
+}
+
+fn asks_removal(alloc: Global, line: &[u8], path: &[u8]) -> bool {
+    match read_line(alloc, line) {
+        Ok(Asked::One(Event::Remove { path: of })) => of.as_slice() == path,
+        _ => false,
+    }
+}
+
+fn asks_made(alloc: Global, line: &[u8], wanted: &[u8]) -> bool {
+    match read_line(alloc, line) {
+        Ok(Asked::One(Event::Put { bytes, .. })) => bytes.as_slice() == wanted,
         _ => false,
     }
 }
 
 #[test]
-fn other_lines(rt: HostRuntime) -> Result<(), AllocError> {
+fn other_lines(rt: HostRuntime) {
     let alloc = rt.alloc();
-    let table = [
-        (
-            b"at 00000001099511627775".as_slice(),
-            Asked::At(1099511627775),
-        ),
-        (b"configure", Asked::Configure),
-        (
-            b" cat  /a ",
-            Asked::One(Event::Read {
-                path: bytes(alloc, b"/a")?,
-                upto: 16777216,
-            }),
-        ),
-        (
-            b"head /a 0",
-            Asked::One(Event::Read {
-                path: bytes(alloc, b"/a")?,
-                upto: 0,
-            }),
-        ),
-        (
-            b"rm\t/a",
-            Asked::One(Event::Remove {
-                path: bytes(alloc, b"/a")?,
-            }),
-        ),
-    ];
-    for (line, wanted) in &table {
-        assert!(rt; asks(alloc, line, wanted));
-    }
-    Ok(())
-}
-
-#[test]
-fn made_files(rt: HostRuntime) {
-    let table = [
-        (
-            b"make /a u g 4 254".as_slice(),
-            b"\xfe\xff\x00\x01".as_slice(),
-        ),
-        (b"make /a u g 0 1", b""),
-    ];
-    for (line, text) in table {
-        match read_line(rt.alloc(), line) {
-            Ok(asked) => assert!(rt; is_put(&asked, text)),
-            Err(_) => assert!(rt; false),
-        }
-    }
+    assert!(rt; asks_moment(alloc, b"at 00000001099511627775", 1099511627775));
+    assert!(rt; asks_read(alloc, b" cat  /a ", b"/a", 16777216));
+    assert!(rt; asks_read(alloc, b"head /a 0", b"/a", 0));
+    assert!(rt; asks_removal(alloc, b"rm\t/a", b"/a"));
+    assert!(rt; asks_made(alloc, b"make /a u g 3 254", &[254, 255, 0]));
+    assert!(rt; asks_made(alloc, b"make /a u g 0k 7", b""));
+    let configures = matches!(read_line(alloc, b"configure"), Ok(Asked::Configure));
+    assert!(rt; configures);
 }

@@ -12,13 +12,14 @@ use Rattle.site_history.proofs.Reopenings.{settled_as}
 use Rattle.engine.specs.declared.kept.Engine.{Engine}
 use Rattle.engine.specs.StandsFor.{StandsFor}
 use Rattle.session.specs.Asking.{Request, asks_of}
-use Rattle.session.specs.Rounds.{Stage}
-use Rattle.session.specs.Kept.{Passes}
+use Rattle.session.specs.Rounds.{Stage, IsRun, stage_after}
+use Rattle.session.specs.Kept.{Passes, AreHeld}
 use Rattle.session.specs.Session.{Outside, IsSession, Ends}
 use Rattle.session.specs.Outcomes.{IsAnswered, IsOutcome, HasStatus, stage_of, journal_bytes}
 use Rattle.session.specs.declared.kept.Mark.{Mark}
 use Rattle.session.specs.declared.kept.Ending.{Ending}
 use Rattle.session.proofs.KeptLaws.{opening_read, opening_later}
+use Rattle.session.proofs.Prefixes.{marks_held}
 use Rattle.session.proofs.Statuses.{whole_output, session_status, session_exits}
 use Rattle.session.proofs.Refusals.{refusal_exits}
 
@@ -63,6 +64,13 @@ module _ (Asks : Items Request) (Stands Stands' : World → Type 0) (tells : Boo
     fixed = s.fixed;
   }
 
+-- What a crash left since a mark holds the steps that the mark counts.
+all_held : (size : ℕ) (store : View) (tells : Bool) (old new : Outside) (first : Stage) (marks : List Mark) (Stands : World → Type 0) (budget status : ℕ)
+    → (s : IsSession asks_of Stands tells size budget store old new first marks status) → IsTrue tells → AreHeld size store (stage_after first (s.told ++ s.untold)).world.history marks
+all_held size store tells old new first marks Stands budget status s t =
+    subst (λ (ms : List Mark). AreHeld size store (stage_after first (s.told ++ s.untold)).world.history ms) (sym s.marks_told)
+    (marks_held size store old.moment 0 first s.told s.untold (s.kept t) (subst (λ (b : Bool). IsRun size b first (s.told ++ s.untold)) t s.run))
+
 -- An engine that stands for a world leaves its store settled for it.
 leaves_settled : {B P : Type 0} (told : Bool) (view : B → View) (engine : Engine B P) (size : ℕ) (w : World) → engine.journal.size ≡ size → (IsTrue told → IsSound (view engine.bank)) → StandsFor told view engine w
     → IsTrue told → IsSettledAs size (view engine.bank) w
@@ -87,16 +95,21 @@ module _ {B P : Type 0} (told : Bool) (faults : B → ℕ) (view : B → View) (
       → (IsTrue told → Passes (view opening.bank) (view closing.bank))
       → IsSession asks_of (StandsFor told view closing) told journal_bytes budget (view closing.bank) seen_open (seen_after closing.bank) (stage_of found) marks status
       → IsAnswered told budget (view bank) (view closing.bank) seen_before (seen_after closing.bank) before marks status
-  answered found budget marks status is_found read settled sound fewer same_size passes session = record {
-    found = found;
-    is_found = is_found;
-    opened = (view opening.bank).moment;
-    opening = λ t. opening_later journal_bytes (view opening.bank) (view closing.bank) (view bank).moment before (passes t)
-        (opening_read journal_bytes (view bank) (view opening.bank) before (read t) (settled t));
-    session = counted_earlier asks_of (StandsFor told view closing) (λ w. IsTrue told → IsSettledAs journal_bytes (view closing.bank) w) told journal_bytes budget (view closing.bank) seen_open (seen_after closing.bank)
-        (faults bank) (stage_of found) marks status session fewer (λ w stands. leaves_settled told view closing journal_bytes w same_size sound stands);
-    whole = whole_output (StandsFor told view closing) told journal_bytes budget (view closing.bank) seen_open (seen_after closing.bank) (stage_of found) refl marks status session;
-  }
+  answered found budget marks status is_found read settled sound fewer same_size passes session =
+      let Settled : World → Type 0 = λ w. IsTrue told → IsSettledAs journal_bytes (view closing.bank) w in
+      let whole_call : IsSession asks_of Settled told journal_bytes budget (view closing.bank) (record seen_open { bank_faults = faults bank }) (seen_after closing.bank) (stage_of found) marks status =
+      counted_earlier asks_of (StandsFor told view closing) Settled told journal_bytes budget (view closing.bank) seen_open (seen_after closing.bank)
+      (faults bank) (stage_of found) marks status session fewer (λ w stands. leaves_settled told view closing journal_bytes w same_size sound stands) in
+      record {
+        found = found;
+        is_found = is_found;
+        opened = (view opening.bank).moment;
+        opening = λ t. opening_later journal_bytes (view opening.bank) (view closing.bank) (view bank).moment before (passes t)
+            (opening_read journal_bytes (view bank) (view opening.bank) before (read t) (settled t));
+        session = whole_call;
+        acknowledged = all_held journal_bytes (view closing.bank) told (record seen_open { bank_faults = faults bank }) (seen_after closing.bank) (stage_of found) marks Settled budget status whole_call;
+        whole = whole_output (StandsFor told view closing) told journal_bytes budget (view closing.bank) seen_open (seen_after closing.bank) (stage_of found) refl marks status session;
+      }
 
   -- The same, by what the parts of the call say.
   pub handed : (found : List HistoryStep) × IsFound told before found × StandsFor told view opening (new_world found) → (IsTrue told → OnlyRead (view bank) (view opening.bank))

@@ -1,5 +1,6 @@
 pub mod RoundLaws
 pub mod KeptLaws
+pub mod Prefixes
 pub mod MachineLaws
 pub mod Hearings
 pub mod Responses

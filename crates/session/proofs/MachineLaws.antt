@@ -1,5 +1,5 @@
 -- The machine's answers, and those of a session up to the first fault or want of memory.
-use Rattle.std.proofs.Common.{◌≡◌, ◌⊎◌, inl, inr, ℕ, List, [], ◌∷◌, ◌++◌, length, take, refl, sym, ◌∙◌, ap, subst, arith, Bool, true, false, cond, Option, Some, None, Ok, Err, IsTrue}
+use Rattle.std.proofs.Common.{◌≡◌, ◌⊎◌, inl, inr, ℕ, List, [], ◌∷◌, ◌++◌, length, take, refl, ◌∙◌, ap, subst, arith, Bool, true, false, cond, Option, Some, None, Ok, Err, IsTrue}
 use Rattle.std.proofs.lemmas.Bool.{eqb-true}
 use Rattle.std.specs.Prelude.{flat_map, nat_eq}
 use Rattle.records.specs.declared.event.Asked.{Asked}
@@ -7,7 +7,7 @@ use Rattle.records.specs.declared.event.Asked.TheVariants.{One, At as AskedAt}
 use Rattle.records.specs.declared.event.Event.{Event}
 use Rattle.records.specs.declared.event.Event.TheVariants.{Put as PutEvent, Read as ReadEvent, Remove as RemoveEvent}
 use Rattle.records.specs.declared.reply.Reply.{Reply}
-use Rattle.records.specs.declared.reply.Reply.TheVariants.{Line, At, Bytes, BankFault, FolderFault, BadJournal, NoMemory}
+use Rattle.records.specs.declared.reply.Reply.TheVariants.{Line, Bytes, BankFault, FolderFault, BadJournal, NoMemory}
 use Rattle.records.specs.declared.reply.LineRefusal.TheVariants.{NotACommand}
 use Rattle.records.specs.declared.reply.Rule.{Rule}
 use Rattle.records.specs.declared.file.FileRec.{FileRec}

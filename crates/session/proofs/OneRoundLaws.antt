@@ -1,8 +1,8 @@
 -- One round from its parts.
-use Rattle.std.proofs.Common.{◌≡◌, ◌⊎◌, ◌+◌, ℕ, List, length, refl, ◌∙◌, ap, subst, Option, Bool, IsTrue}
+use Rattle.std.proofs.Common.{◌≡◌, ◌+◌, ℕ, List, length, refl, ◌∙◌, ap, subst, Option, Bool, IsTrue}
 use Rattle.site_text.specs.Causes.{AreCounted}
 use Rattle.bank.specs.Content.{Image}
-use Rattle.bank.specs.View.{View, IsImage, IsSound}
+use Rattle.bank.specs.View.{View, IsSound}
 use Rattle.records.specs.declared.reply.Reply.{Reply}
 use Rattle.site_history.specs.Worlds.{World}
 use Rattle.site_history.specs.Images.{ReadsAs}

@@ -1,5 +1,5 @@
 -- What is handed back where a store was not opened.
-use Rattle.std.proofs.Common.{◌≡◌, inl, inr, ⊎_elim, ℕ, List, [], refl, arith, Bool, IsTrue}
+use Rattle.std.proofs.Common.{◌≡◌, inl, inr, ℕ, List, [], refl, arith, Bool, IsTrue}
 use Rattle.site_text.specs.Causes.{Rose}
 use Rattle.bank.specs.Content.{Content}
 use Rattle.bank.specs.View.{View, OnlyRead}

@@ -1,5 +1,5 @@
 -- What is answered to what was asked, and where the engine stands then.
-use Rattle.std.proofs.Common.{◌≡◌, ◌⊎◌, inl, inr, ℕ, ◌+◌, ◌≤◌, refl, sym, ◌∙◌, ap, subst, arith, Bool, true, IsTrue, Result, Ok, Err}
+use Rattle.std.proofs.Common.{◌≡◌, ◌⊎◌, inl, inr, ℕ, ◌≤◌, refl, sym, ◌∙◌, ap, subst, arith, Bool, IsTrue, Result, Ok, Err}
 use Rattle.std.specs.Prelude.{max}
 use Rattle.site_text.specs.Causes.{Rose, AreCounted}
 use Rattle.bank.specs.View.{View, IsSound}

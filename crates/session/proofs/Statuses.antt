@@ -2,22 +2,21 @@
 use Rattle.std.proofs.Common.{◌≡◌, ◌⊎◌, inl, inr, ℕ, ◌<◌, ◌≤◌, List, [], ◌∷◌, ◌++◌, length, take, refl, sym, ◌∙◌, ap, subst, arith, Bool, true, false, cond, length-append, Option, Some, None, IfSome, IsTrue}
 use Rattle.std.proofs.lemmas.List.{append-nil, take_all}
 use Rattle.std.proofs.lemmas.Bool.{eqb-true}
-use Rattle.std.specs.Prelude.{nat_eq, flat_map}
+use Rattle.std.specs.Prelude.{nat_eq}
 use Rattle.std.specs.Io.KnownBytes.{Appends, Consumes, IsAtEnd}
 use Rattle.site_text.specs.Causes.{Rose}
 use Rattle.bank.specs.Content.{Content}
 use Rattle.bank.specs.View.{View}
 use Rattle.records.specs.declared.reply.Reply.{Reply}
 use Rattle.records.specs.declared.reply.Reply.TheVariants.{BadJournal}
-use Rattle.desk.specs.Texts.{text_of}
 use Rattle.site_history.specs.Steps.{HistoryStep}
 use Rattle.site_history.specs.Worlds.{World}
 use Rattle.site_history.specs.Images.{IsSettled}
-use Rattle.site_history.specs.Journals.{IsBadJournal, HoldsHistory}
+use Rattle.site_history.specs.Journals.{IsBadJournal}
 use Rattle.site_history.proofs.JournalLaws.{not_bad_journal}
 use Rattle.session.specs.Asking.{Request, asks_of}
 use Rattle.session.specs.Rounds.{Stage, Round, ends_run, IsRun, asked, output, cause_of, first_of, status_from, faults_in, calm}
-use Rattle.session.specs.Machine.{Told, output_of}
+use Rattle.session.specs.Machine.{output_of}
 use Rattle.session.specs.Session.{Outside, IsSession, Ends, status_of}
 use Rattle.session.specs.Outcomes.{HasStatus, journal_bytes}
 use Rattle.session.specs.declared.kept.Mark.{Mark}

@@ -1,11 +1,12 @@
 -- What a crash at any moment leaves.
-use Rattle.std.specs.Prelude.{◌⊎◌, ◌≤◌, ℕ, List, [], ◌∷◌}
+use Rattle.std.specs.Prelude.{◌≡◌, ◌⊎◌, ◌≤◌, ℕ, List, [], ◌∷◌, ◌++◌, take}
 use Rattle.bank.specs.Content.{Image}
 use Rattle.bank.specs.View.{View, LeavesOnly}
 use Rattle.site_history.specs.Steps.{HistoryStep}
 use Rattle.site_history.specs.Worlds.{World}
-use Rattle.site_history.specs.Images.{ReadsAs, ReadsNear}
+use Rattle.site_history.specs.Images.{Reads, ReadsAs, ReadsNear}
 use Rattle.session.specs.Rounds.{Round}
+use Rattle.session.specs.declared.kept.Mark.{Mark}
 
 -- From a moment on, from a world on: an image that a crash left while a round was in hand reads as the world before it or as
 -- the one after it, each as its history or as that with the step which it owes; any other is one since the round's end. And
@@ -15,6 +16,16 @@ AreKept size v from w [] = (c : Image) → v.left_since from c → ReadsAs size 
 AreKept size v from w (round ∷ rounds) =
     ((c : Image) → v.left_since from c → v.left_since round.moment c ⊎ (ReadsAs size w c ⊎ ReadsAs size round.after.world c))
     × AreKept size v round.moment round.after.world rounds
+
+-- a list of steps begins with these
+abbrev pub BeginsWith : List HistoryStep → List HistoryStep → Type 0
+BeginsWith front steps = (more : List HistoryStep) × (steps ≡ front ++ more)
+
+-- Each step that was acknowledged is held: whatever a crash left since the moment of a mark reads as a history that begins with
+-- the first steps of the last history, as many as the mark counts.
+abbrev pub AreHeld : ℕ → View → List HistoryStep → List Mark → Type 0
+AreHeld size v last [] = Unit {0}
+AreHeld size v last (mark ∷ marks) = ((c : Image) → v.left_since mark.moment c → (steps : List HistoryStep) × Reads size c steps × BeginsWith (take mark.steps last) steps) × AreHeld size v last marks
 
 -- An image that a crash left while the store was opened is one of those from before, which read nearly as the history that the
 -- store was settled for; any other is one since it was open.

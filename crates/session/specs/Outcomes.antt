@@ -7,13 +7,13 @@ use Rattle.bank.specs.View.{View}
 use Rattle.records.specs.declared.reply.Reply.TheVariants.{BadJournal}
 use Rattle.desk.specs.Texts.{text_of}
 use Rattle.site_history.specs.Steps.{HistoryStep}
-use Rattle.site_history.specs.Worlds.{World, new_world, IsFound}
-use Rattle.site_history.specs.Images.{ReadsNear, IsSettled, IsSettledAs}
+use Rattle.site_history.specs.Worlds.{new_world, IsFound}
+use Rattle.site_history.specs.Images.{IsSettled, IsSettledAs}
 use Rattle.site_history.specs.Journals.{IsBadJournal}
 use Rattle.session.specs.Asking.{asks_of}
-use Rattle.session.specs.Rounds.{Stage}
+use Rattle.session.specs.Rounds.{Stage, stage_after}
 use Rattle.session.specs.Machine.{output_of}
-use Rattle.session.specs.Kept.{IsOpening}
+use Rattle.session.specs.Kept.{IsOpening, AreHeld}
 use Rattle.session.specs.Session.{Outside, IsSession}
 use Rattle.session.specs.declared.kept.Mark.{Mark}
 
@@ -51,6 +51,8 @@ pub record IsAnswered (tells : Bool) (budget : ℕ) (entry store : View) (old ne
   pub opened : ℕ
   pub opening : IsTrue tells → IsOpening journal_bytes store entry.moment opened before
   pub session : IsSession asks_of (λ w. IsTrue tells → IsSettledAs journal_bytes store w) tells journal_bytes budget store (record old { moment = opened }) new (stage_of found) marks status
+  -- each acknowledged step is held by whatever a crash left since its mark
+  pub acknowledged : IsTrue tells → AreHeld journal_bytes store (stage_after (stage_of found) (session.told ++ session.untold)).world.history marks
   -- with status 0 what was written is the machine's output for all that was read
   pub whole : IsTrue tells → status ≡ 0 → IfSome old.left (λ bytes. (length bytes ≤ budget) × Appends old.written new.written (output_of journal_bytes (stage_of found) (asks_of bytes true)))
 

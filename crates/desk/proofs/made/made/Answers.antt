@@ -1,4 +1,4 @@
-use Rattle.std.proofs.Common.{ℕ, List, ◌≡◌, ◌+◌, ◌%◌, ◌++◌, [], ◌∷◌, ◌∙◌, ap, sym}
+use Rattle.std.proofs.Common.{ℕ, List, ◌+◌, ◌%◌, ◌++◌, [], ◌∷◌, ◌∙◌, ap, sym}
 use Rattle.desk.proofs.MadeBytes.{one_more_made}
 use Rattle.desk.proofs.made.made.Goals as goal
 

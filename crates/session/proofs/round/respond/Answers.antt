@@ -1,7 +1,6 @@
-use Rattle.std.proofs.Common.{◌≡◌, ◌∙◌, ap, Result, Ok, Err}
+use Rattle.std.proofs.Common.{◌≡◌, Result, Ok}
 use Rattle.records.specs.declared.event.Asked.{Asked}
 use Rattle.records.specs.declared.reply.LineRefusal.{LineRefusal}
-use Rattle.session.specs.Asking.{Request}
 use Rattle.session.proofs.Responses.{read_alike, counted_reply, event_response, at_response, other_response, refused_response}
 use Rattle.session.proofs.round.respond.Goals as goal
 

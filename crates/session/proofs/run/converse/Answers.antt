@@ -1,4 +1,4 @@
-use Rattle.std.proofs.Common.{refl, sym, arith, ◌∙◌, Bool, IsTrue}
+use Rattle.std.proofs.Common.{refl, sym, arith, ◌∙◌}
 use Rattle.bank.proofs.Moments.{joined, weakened, started}
 use Rattle.session.specs.Asking.{asks_of}
 use Rattle.session.specs.Rounds.{stage_after}

@@ -1,4 +1,4 @@
-use Rattle.std.proofs.Common.{◌≡◌, inl, inr, refl, ap, sym, ◌∙◌, subst, ℕ, arith, Bool, false, true, IsTrue, []}
+use Rattle.std.proofs.Common.{◌≡◌, inl, inr, refl, ap, sym, ◌∙◌, subst, ℕ, arith, false, true, IsTrue, []}
 use Rattle.std.proofs.KnownBytes.{Appends-nil}
 use Rattle.bank.specs.View.{OnlyRead}
 use Rattle.session.specs.Rounds.{first_of}
