@@ -1,3 +1,5 @@
 pub mod Places
 pub mod Legality
 pub mod Effects
+pub mod Waits
+pub mod Pieces

@@ -2,6 +2,7 @@
 #![tactic(auto)]
 
 mod apply;
+mod data;
 mod engine;
 mod files;
 mod kept;

@@ -1,6 +1,6 @@
 -- Reads and removals of a file that is there. `accessed_legal` and `removed_legal` say that their steps may come, and
 -- `read_length` how many bytes a read answers.
-use Rattle.std.proofs.Common.{◌≡◌, ℕ, ◌≤◌, ◌<◌, ◌^◌, List, [], length, take, min, refl, arith}
+use Rattle.std.proofs.Common.{◌≡◌, ℕ, ◌≤◌, ◌<◌, ◌^◌, length, take, min, refl, arith}
 use Rattle.std.proofs.lemmas.List.{length-take}
 use Rattle.records.specs.declared.file.FileRec.{FileRec}
 use Rattle.records.specs.declared.step.StepKind.TheVariants.{Accessed, Removed}

@@ -1,8 +1,8 @@
 -- The record of a step is appended to the journal, once the bytes of the step stand.
-use Rattle.std.proofs.Common.{◌≡◌, ◌≢◌, ◌⊎◌, inl, inr, ⊎_elim, ℕ, ◌+◌, List, [], ◌∷◌, ◌++◌, length, map, refl, sym, ◌∙◌, ap, subst, arith}
-use Rattle.bank.specs.Content.{Content, Image}
+use Rattle.std.proofs.Common.{◌≡◌, ◌⊎◌, inl, inr, ⊎_elim, ℕ, ◌+◌, List, [], ◌∷◌, ◌++◌, length, refl, sym, ◌∙◌, ap, subst}
+use Rattle.bank.specs.Content.{Image}
 use Rattle.bank.specs.View.{View, IsImage, IsSound, LeavesOnly, Wrote}
-use Rattle.bank.proofs.Moments.{weakened}
+use Rattle.bank.proofs.Moments.{weakened, joined}
 use Rattle.journal.specs.Records.{HoldsRecords, AllHold, IsBeforeOrAfter}
 use Rattle.journal.proofs.Held.{now_has}
 use Rattle.records.specs.Written.{written}
@@ -10,11 +10,11 @@ use Rattle.site_history.specs.Site.{Site}
 use Rattle.site_history.specs.Steps.{HistoryStep, effect, IsLegal, HasBytes}
 use Rattle.site_history.specs.Histories.{after, IsHistory}
 use Rattle.site_history.specs.Images.{extents, AllStand, written_forms, Reads}
-use Rattle.site_history.specs.Pinned.{StandInAll, IsPinned}
+use Rattle.site_history.specs.Pinned.{StandInAll, IsPinned, put_extents}
 use Rattle.site_history.proofs.HistoryLaws.{after-push, history-push}
 use Rattle.site_history.proofs.Extents.{site_in_cache, stand_along, others_image}
 use Rattle.site_history.proofs.DistinctInodes.{distinct_inodes}
-use Rattle.site_history.proofs.StepExtents.{put_extents, effect_stands}
+use Rattle.site_history.proofs.StepExtents.{effect_stands}
 
 -- The written forms of a history and one step more.
 pub written_forms-push : (steps : List HistoryStep) (made : HistoryStep) → written_forms (steps ++ made ∷ []) ≡ written_forms steps ++ written made.step ∷ []
@@ -64,3 +64,9 @@ module _ (size : ℕ) (v w : View) (steps : List HistoryStep) (made : HistorySte
   -- After a fault each image reads as the one or the other.
   pub commit_faulted : IsSound w → LeavesOnly v w (IsBeforeOrAfter v (written_forms steps) payload size) → (c : Image) → IsImage w c → Reads size c steps ⊎ Reads size c (steps ++ made ∷ [])
   commit_faulted sound appended c image = now_has v w (λ c. Reads size c steps ⊎ Reads size c (steps ++ made ∷ [])) sound (commit_moments appended) c image
+
+-- First the bytes of a step are written, elsewhere, and then its record is appended: what a crash leaves in all that time.
+pub put_moments : (size : ℕ) (u v w : View) (steps : List HistoryStep) (made : HistoryStep) → LeavesOnly u v (λ c. Reads size c steps)
+    → LeavesOnly v w (λ c. Reads size c steps ⊎ Reads size c (steps ++ made ∷ [])) → LeavesOnly u w (λ c. Reads size c steps ⊎ Reads size c (steps ++ made ∷ []))
+put_moments size u v w steps made first second = joined u v w (λ c. Reads size c steps ⊎ Reads size c (steps ++ made ∷ []))
+    (weakened u v (λ c. Reads size c steps) (λ c. Reads size c steps ⊎ Reads size c (steps ++ made ∷ [])) first (λ c reads. inl reads)) second

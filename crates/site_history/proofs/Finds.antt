@@ -1,8 +1,11 @@
 -- Files that are found: the first of a path, and the one of an inode. Code that looks for the place of a file finds the same.
-use Rattle.std.proofs.Common.{◌≡◌, ℕ, ◌+◌, ◌<◌, zero, suc, List, [], ◌∷◌, length, get_or, refl, ◌∙◌, ap, subst, arith, Bool, true, false, cond, Some, None}
-use Rattle.std.specs.Prelude.{◌==◌, ◌||◌, find}
-use Rattle.std.specs.List.{list_any}
-use Rattle.std.proofs.lemmas.Bool.{eq-eqb, ne_eqb, or_left, or_right, both_ways}
+use Rattle.std.proofs.Common.{◌≡◌, ℕ, ◌+◌, ◌<◌, ◌≤◌, zero, suc, List, [], ◌∷◌, length, get_or, refl, ◌∙◌, ap, subst, arith, Bool, true, false, cond, Option, Some, None, sym, ltb}
+use Rattle.std.specs.Prelude.{◌==◌, ◌||◌, find, slice_get, MatchOption}
+use Rattle.std.specs.List.{list_any, position_or_len}
+use Rattle.std.proofs.lemmas.Bool.{ltb-true, ltb-false, eq-eqb, ne_eqb, or_left, or_right, both_ways}
+use Rattle.std.proofs.lemmas.List.{get_or_default}
+use Rattle.std.proofs.lemmas.List.Folds.{find_at}
+use Rattle.std.proofs.lemmas.Option.{slice_get-get_or, slice_get_past}
 use Rattle.records.specs.declared.file.FileRec.{FileRec}
 use Rattle.site_history.proofs.FileLaws.{AreRisingFrom, rising_at}
 
@@ -11,6 +14,29 @@ pub record StandsAt (files : List FileRec) (file : FileRec) : Type 0 where
   pub place : ℕ
   pub within : place < length files
   pub here : (d : FileRec) → get_or files place d ≡ file
+
+-- the file at a place that code has
+pub stands-at : (files : List FileRec) (i : ℕ) (d : FileRec) → i < length files → StandsAt files (get_or files i d)
+stands-at files i d lt = record { place = i; within = lt; here = λ e. get_or_default files i e d lt }
+
+-- the first place that passes a test has what is found, and where none passes nothing is found
+pub find-place : (p : FileRec → Bool) (files : List FileRec) (i : ℕ) (d : FileRec) → i ≡ position_or_len p files → i < length files → find p files ≡ Some (get_or files i d)
+find-place p files i d is lt = find_at p files ∙ subst (λ (n : ℕ). slice_get files n ≡ Some (get_or files i d)) is (slice_get-get_or files i d lt)
+
+pub find-past : (p : FileRec → Bool) (files : List FileRec) → length files ≤ position_or_len p files → find p files ≡ None
+find-past p files past = find_at p files ∙ slice_get_past files (position_or_len p files) past
+
+-- What code's search for a place answers, as `position` does: the place of what is found, or none where nothing is.
+pub place-found : (p : FileRec → Bool) (files : List FileRec) (r : Option ℕ) → r ≡ cond (ltb (position_or_len p files) (length files)) (Some (position_or_len p files)) None
+    → MatchOption r (find p files ≡ None) (λ i. (i < length files) × ((d : FileRec) → find p files ≡ Some (get_or files i d)))
+place-found p files r is = by_test (ltb (position_or_len p files) (length files)) refl is
+  where
+    by_test : (b : Bool) → ltb (position_or_len p files) (length files) ≡ b → r ≡ cond b (Some (position_or_len p files)) None
+        → MatchOption r (find p files ≡ None) (λ i. (i < length files) × ((d : FileRec) → find p files ≡ Some (get_or files i d)))
+    by_test true t e = subst (λ (o : Option ℕ). MatchOption o (find p files ≡ None) (λ i. (i < length files) × ((d : FileRec) → find p files ≡ Some (get_or files i d)))) (sym e)
+        (ltb-true (position_or_len p files) (length files) t, λ d. find-place p files (position_or_len p files) d refl (ltb-true (position_or_len p files) (length files) t))
+    by_test false t e = subst (λ (o : Option ℕ). MatchOption o (find p files ≡ None) (λ i. (i < length files) × ((d : FileRec) → find p files ≡ Some (get_or files i d)))) (sym e)
+        (find-past p files (ltb-false (position_or_len p files) (length files) t))
 
 -- what is found is one of the files, and passes the test
 pub found-stands : (p : FileRec → Bool) (files : List FileRec) (file : FileRec) → find p files ≡ Some file → StandsAt files file × (p file ≡ true)

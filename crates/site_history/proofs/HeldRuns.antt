@@ -11,7 +11,7 @@ use Rattle.std.proofs.lemmas.List.Concat.{flat_map-append}
 use Rattle.records.specs.declared.file.FileRec.{FileRec}
 use Rattle.records.specs.declared.file.Run.{Run}
 use Rattle.cache_space.specs.Space.{taken_by, AreThere, AreApart, AreDisjoint}
-use Rattle.cache_space.proofs.HeldBlocks.{AreApart-sym, AreThere-append, AreDisjoint-append, taken_by-moved}
+use Rattle.cache_space.proofs.HeldBlocks.{AreApart-sym, AreApart-from_append_right, AreThere-append, AreThere-from_append, AreDisjoint-append, AreDisjoint-from_append, taken_by-moved}
 use Rattle.cache_space.proofs.ChangedBlocks.{taken_by-replaced, AreDisjoint-removed, AreApart-removed, AreThere-removed, AreDisjoint-replaced, AreApart-replaced, AreThere-replaced}
 use Rattle.site_history.specs.Site.{held_runs}
 use Rattle.site_history.specs.Steps.{accessed_by}
@@ -61,6 +61,28 @@ held-accessed moment inode (file ∷ files) = by_test (file.inode == inode) (hel
         → (cond b (record file { accessed = moment }) file).runs ++ held_runs (map (accessed_by moment inode) files) ≡ file.runs ++ held_runs files
     by_test true rest = ap (λ (l : List Run). file.runs ++ l) rest
     by_test false rest = ap (λ (l : List Run). file.runs ++ l) rest
+
+-- what holds of the runs of all files holds of those of the one at a place: they are there, runs that have no block in common
+-- with all of them have none with it, and no two files have one in common
+pub there-at : (total : ℕ) (files : List FileRec) (i : ℕ) (d : FileRec) → i < length files → AreThere total (held_runs files) → AreThere total (get_or files i d).runs
+there-at total files i d lt there =
+    let all : AreThere total (held_runs (take i files) ++ ((get_or files i d).runs ++ held_runs (drop (suc i) files))) = subst (λ (l : List Run). AreThere total l) (held-at files i d lt) there in
+    let rest = AreThere-from_append total (held_runs (take i files)) ((get_or files i d).runs ++ held_runs (drop (suc i) files)) all in
+    (AreThere-from_append total (get_or files i d).runs (held_runs (drop (suc i) files)) rest.1).0
+
+pub apart-from_one : (runs : List Run) (files : List FileRec) (i : ℕ) (d : FileRec) → i < length files → AreApart runs (held_runs files) → AreApart runs (get_or files i d).runs
+apart-from_one runs files i d lt apart =
+    let all : AreApart runs (held_runs (take i files) ++ ((get_or files i d).runs ++ held_runs (drop (suc i) files))) = subst (λ (l : List Run). AreApart runs l) (held-at files i d lt) apart in
+    let rest = AreApart-from_append_right runs (held_runs (take i files)) ((get_or files i d).runs ++ held_runs (drop (suc i) files)) all in
+    (AreApart-from_append_right runs (get_or files i d).runs (held_runs (drop (suc i) files)) rest.1).0
+
+pub apart-at : (files : List FileRec) (i j : ℕ) (d : FileRec) → i < j → j < length files → AreDisjoint (held_runs files) → AreApart (get_or files i d).runs (get_or files j d).runs
+apart-at [] i j d lt within disjoint = absurd (omega arith)
+apart-at (file ∷ files) i zero d lt within disjoint = absurd (omega arith)
+apart-at (file ∷ files) zero (suc j) d lt within disjoint =
+    apart-from_one file.runs files j d (omega arith) (AreDisjoint-from_append file.runs (held_runs files) disjoint).1.1
+apart-at (file ∷ files) (suc i) (suc j) d lt within disjoint =
+    apart-at files i j d (omega arith) (omega arith) (AreDisjoint-from_append file.runs (held_runs files) disjoint).1.0
 
 -- runs of a new file that are free
 pub pushed-disjoint : (files : List FileRec) (new : FileRec) → AreDisjoint (held_runs files) → AreDisjoint new.runs → AreApart new.runs (held_runs files)

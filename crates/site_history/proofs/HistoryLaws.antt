@@ -1,6 +1,6 @@
 -- A history and one step more. `after-push`, `history-push`, `journal_length-push` and `length-push` serve each exit that
 -- acknowledges a step; `history-keeps` and `history-counts` carry what each legal step keeps over a history.
-use Rattle.std.proofs.Common.{◌≡◌, ℕ, ◌+◌, List, [], ◌∷◌, ◌++◌, length, refl, subst, arith, length-append}
+use Rattle.std.proofs.Common.{◌≡◌, ℕ, ◌+◌, ◌*◌, ◌≤◌, List, [], ◌∷◌, ◌++◌, length, refl, subst, arith, length-append}
 use Rattle.records.specs.Written.{written}
 use Rattle.site_history.specs.Site.{Site, first_site}
 use Rattle.site_history.specs.Steps.{HistoryStep, effect, IsLegal, HasBytes}
@@ -17,6 +17,11 @@ after-push steps made = after_from-push first_site steps made
 history_from-push : (site : Site) (steps : List HistoryStep) (made : HistoryStep) → IsHistoryFrom site steps → IsLegal (after_from site steps).fields made.step → HasBytes made → IsHistoryFrom site (steps ++ made ∷ [])
 history_from-push site [] made h legal bytes = (legal, bytes, tt)
 history_from-push site (s ∷ steps) made h legal bytes = (h.0, h.1, history_from-push (effect s site) steps made h.2 legal bytes)
+
+-- a record takes 5 bytes at least, so that a journal's size bounds the number of steps
+pub journal_length-least : (steps : List HistoryStep) → 5 * length steps ≤ journal_length steps
+journal_length-least [] = omega arith
+journal_length-least (s ∷ steps) = omega (arith, journal_length-least steps)
 
 -- a history and a legal step are a history
 pub history-push : (steps : List HistoryStep) (made : HistoryStep) → IsHistory steps → IsLegal (after steps).fields made.step → HasBytes made → IsHistory (steps ++ made ∷ [])

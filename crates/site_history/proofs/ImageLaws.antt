@@ -1,10 +1,10 @@
 -- What images read as: where each of them reads as one history, and where two of them agree.
-use Rattle.std.proofs.Common.{◌≡◌, ℕ, ◌+◌, ◌-◌, ◌<◌, ◌≤◌, Bool, true, false, cond, ◌==◌, List, [], ◌∷◌, length, refl, sym, ◌∙◌, ap, subst, arith}
+use Rattle.std.proofs.Common.{◌≡◌, ◌≢◌, ℕ, ◌+◌, ◌-◌, ◌<◌, Bool, true, false, cond, ◌==◌, List, [], ◌∷◌, refl, sym, ◌∙◌, ap, subst, arith}
 use Rattle.std.proofs.lemmas.Bool.{eq-eqb, eqb-true}
-use Rattle.bank.specs.Content.{Content, Image, Stands}
+use Rattle.bank.specs.Content.{Content, Image, Stands, Same}
 use Rattle.bank.specs.View.{View, IsImage, IsSound}
 use Rattle.bank.proofs.Spans.{Stands-same}
-use Rattle.journal.proofs.RecordLaws.{holds-same}
+use Rattle.journal.proofs.Held.{agreeing_holds, fresh_holds}
 use Rattle.site_history.specs.Steps.{HistoryStep}
 use Rattle.site_history.specs.Histories.{after, IsHistory}
 use Rattle.site_history.specs.Images.{Extent, extents, AllStand, written_forms, Reads, SameAt, AgreeingReadAlike}
@@ -64,10 +64,31 @@ same_stand c d (e ∷ es) same h = (
   same_stand c d es same.1 h.1,
 )
 
--- Two images that agree in the journal and wherever a site's bytes lie read as the same histories.
-pub agreeing_read : AgreeingReadAlike
-agreeing_read size c d steps agree h = record {
+-- Two images that agree in the journal, below its size, and wherever a site's bytes lie read as the same histories.
+pub agreeing_below : (size : ℕ) (c d : Image) (steps : List HistoryStep) → ((k : ℕ) → k < size → d 0 k ≡ c 0 k) → SameAt c d (extents (after steps)) → Reads size c steps → Reads size d steps
+agreeing_below size c d steps journal files h = record {
   history = h.history;
-  records = holds-same (c 0) (d 0) 0 (written_forms steps) size (λ k le. sym (agree.0 k)) h.records;
-  bytes = same_stand c d (extents (after steps)) agree.1 h.bytes;
+  records = agreeing_holds (written_forms steps) size (c 0) (d 0) journal h.records;
+  bytes = same_stand c d (extents (after steps)) files h.bytes;
 }
+
+-- So they do where they agree in all of the journal's area.
+pub agreeing_read : AgreeingReadAlike
+agreeing_read size c d steps agree h = agreeing_below size c d steps agree.0 agree.1 h
+
+-- Images with the same bytes everywhere are the same at each extent, and read as the same histories.
+pub same_everywhere : (c d : Image) (es : List Extent) → ((a : ℕ) → Same (c a) (d a)) → SameAt c d es
+same_everywhere c d [] same = tt
+same_everywhere c d (e ∷ es) same = ((λ k lt. sym (same e.area (e.place + k))), same_everywhere c d es same)
+
+pub same_read : (size : ℕ) (c d : Image) (steps : List HistoryStep) → ((a : ℕ) → Same (c a) (d a)) → Reads size c steps → Reads size d steps
+same_read size c d steps same reads = agreeing_read size c d steps (λ k lt. sym (same 0 k), same_everywhere c d (extents (after steps)) same) reads
+
+-- What stands in whatever a crash leaves still does where it leaves nothing else.
+pub stand_in_fewer : (u v : View) (es : List Extent) → ((a : ℕ) (c : Content) → v.may_leave a c → u.may_leave a c) → StandInAll u es → StandInAll v es
+stand_in_fewer u v [] fewer h = tt
+stand_in_fewer u v (e ∷ es) fewer h = ((λ c left. h.0 c (fewer e.area c left)), stand_in_fewer u v es fewer h.1)
+
+-- An image whose journal begins with a closed gate reads as the history of no step.
+pub fresh_reads : (size : ℕ) (c : Image) → c 0 0 ≢ 1 → Reads size c []
+fresh_reads size c shut = record { history = tt; records = fresh_holds (c 0) size shut; bytes = tt }

@@ -1,8 +1,8 @@
 -- What a journal's area says of histories: one history's steps, or a bad record at one place.
-use Rattle.std.proofs.Common.{◌≡◌, ◌⊎◌, inl, inr, ⊎_elim, ℕ, ◌+◌, ◌<◌, ◌≤◌, List, [], ◌∷◌, ◌++◌, length, map, refl, sym, ◌∙◌, ap, subst, arith}
+use Rattle.std.proofs.Common.{◌≡◌, inl, inr, ⊎_elim, ℕ, ◌+◌, ◌<◌, List, [], ◌∷◌, ◌++◌, length, map, refl, sym, ◌∙◌, ap, subst, arith}
 use Rattle.std.proofs.lemmas.List.{length-map}
 use Rattle.bank.specs.Content.{Content, Same}
-use Rattle.journal.specs.Records.{IsRecord, AreRecords, end_of, IsEnd, HoldsRecords, IsBadAt}
+use Rattle.journal.specs.Records.{IsRecord, AreRecords, end_of, IsEnd, IsBadAt}
 use Rattle.journal.proofs.RecordLaws.{before-same, holds-same, one_record, no_record, not_bad_record, one_list, bad-same}
 use Rattle.records.specs.declared.step.Step.{Step}
 use Rattle.records.specs.Written.{written, InRange}

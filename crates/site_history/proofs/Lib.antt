@@ -10,6 +10,7 @@ pub mod StepRanges
 pub mod Puts
 pub mod Accesses
 pub mod Turns
+pub mod Answered
 pub mod ImageLaws
 pub mod WritesElsewhere
 pub mod Extents
@@ -19,3 +20,5 @@ pub mod DistinctInodes
 pub mod Commits
 pub mod JournalLaws
 pub mod Reopenings
+pub mod Storing
+pub mod FileReads

@@ -1,7 +1,7 @@
 -- A put that no rule refuses is legal. `admitted` says what is known then, `put_legal` that its step may come, `put_has_bytes`
 -- that its bytes are those it says.
-use Rattle.std.proofs.Common.{◌≡◌, ℕ, ◌+◌, ◌<◌, ◌≤◌, ◌^◌, List, length, refl, sym, ◌∙◌, ap, subst, arith, Bool, true, false, cond, Option, Some, None}
-use Rattle.std.specs.Prelude.{is_some, is_none, ◌&&◌, ◌||◌, not, nat_le, nat_lt, MatchOption, IsTrue}
+use Rattle.std.proofs.Common.{◌≡◌, ℕ, ◌<◌, ◌≤◌, ◌^◌, List, length, refl, arith, Bool, true, false, cond, Option, Some, None}
+use Rattle.std.specs.Prelude.{is_none, ◌&&◌, ◌||◌, not, nat_le, nat_lt, MatchOption, IsTrue}
 use Rattle.std.specs.Option.{option_map_or}
 use Rattle.std.proofs.lemmas.Bool.Decides.{nat_tests}
 use Rattle.records.specs.declared.file.FileRec.{FileRec}

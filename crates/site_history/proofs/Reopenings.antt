@@ -1,7 +1,7 @@
 -- A reopening decides whether the step that is owed is there.
-use Rattle.std.proofs.Common.{◌≡◌, ◌⊎◌, inl, inr, ⊎_elim, ℕ, ◌+◌, List, [], ◌∷◌, ◌++◌, length, map, Option, Some, None, true, refl, sym, ◌∙◌, ap, subst, arith, length-append}
+use Rattle.std.proofs.Common.{◌≡◌, inl, inr, ⊎_elim, ℕ, List, [], ◌∷◌, ◌++◌, length, Option, Some, None, true, refl, sym, ◌∙◌, ap, subst, arith, length-append}
 use Rattle.std.proofs.lemmas.List.{length-map}
-use Rattle.bank.specs.Content.{Content, Image, Same}
+use Rattle.bank.specs.Content.{Image, Same}
 use Rattle.bank.specs.View.{View, IsImage, IsSound, OnlyContent, OnlyRead, LeavesOnly}
 use Rattle.bank.proofs.Moments.{weakened}
 use Rattle.journal.specs.Records.{HoldsRecords}
@@ -10,9 +10,11 @@ use Rattle.records.specs.Written.{written}
 use Rattle.site_history.specs.Steps.{HistoryStep}
 use Rattle.site_history.specs.Histories.{after, IsHistory}
 use Rattle.site_history.specs.Worlds.{World, IsReopened}
-use Rattle.site_history.specs.Images.{Extent, extents, written_forms, Reads, ReadsNear, IsSettled, ReadsAs, IsSettledAs, SameAt}
+use Rattle.site_history.specs.Images.{extents, written_forms, Reads, ReadsNear, IsSettled, ReadsAs, IsSettledAs}
+use Rattle.site_history.specs.Journals.{HoldsHistory, IsBadJournal}
 use Rattle.site_history.specs.Pinned.{IsPinned}
-use Rattle.site_history.proofs.ImageLaws.{agreeing_read, pinned_by_images}
+use Rattle.site_history.proofs.ImageLaws.{pinned_by_images, same_read, stand_in_fewer}
+use Rattle.site_history.proofs.JournalLaws.{not_bad_journal}
 
 -- A history with one step more has other written forms.
 longer : (steps : List HistoryStep) (made : HistoryStep) → written_forms steps ≡ written_forms (steps ++ made ∷ []) → ⊥
@@ -28,13 +30,28 @@ longer steps made e = omega (
 one_owed : {A : Type 0} (o : Option A) (x y : A) → o ≡ Some x → o ≡ Some y → x ≡ y
 one_owed o x y e f = let both : Some x ≡ Some y = sym e ∙ f in cc
 
-same_everywhere : (c d : Image) (es : List Extent) → ((a : ℕ) → Same (c a) (d a)) → SameAt c d es
-same_everywhere c d [] same = tt
-same_everywhere c d (e ∷ es) same = ((λ k lt. sym (same e.area (e.place + k))), same_everywhere c d es same)
+-- Where no step is owed, an image that reads as a world reads as its history.
+pub reads_alone : (size : ℕ) (w : World) (c : Image) → w.owed ≡ None → ReadsAs size w c → Reads size c w.history
+reads_alone size w c none (inl reads) = reads
+reads_alone size w c none (inr more) = absurd (let no : None ≡ Some more.0 = sym none ∙ more.1 in cc)
 
--- Images with the same bytes everywhere read as the same histories.
-pub same_read : (size : ℕ) (c d : Image) (steps : List HistoryStep) → ((a : ℕ) → Same (c a) (d a)) → Reads size c steps → Reads size d steps
-same_read size c d steps same reads = agreeing_read size c d steps (same 0, same_everywhere c d (extents (after steps)) same) reads
+-- And then a store is pinned to the history if each of its images reads as the world.
+pub pinned_by_world : (size : ℕ) (v : View) (w : World) → IsSound v → w.owed ≡ None → ((c : Image) → IsImage v c → ReadsAs size w c) → IsPinned size v w.history
+pinned_by_world size v w sound none images = pinned_by_images size v w.history sound (λ c image. reads_alone size w c none (images c image))
+
+-- The journal of an image that reads as a history holds that history, and is not bad.
+pub journal_of_image : (size : ℕ) (c : Image) (steps : List HistoryStep) → Reads size c steps → HoldsHistory size (c 0) steps
+journal_of_image size c steps reads = record { history = reads.history; records = reads.records }
+
+pub never_bad : (size : ℕ) (v : View) (w : World) (place : ℕ) → IsSound v → ((c : Image) → IsImage v c → ReadsAs size w c) → IsBadJournal size (v.content 0) place → ⊥
+never_bad size v w place sound images bad = ⊎_elim
+    (λ reads. not_bad_journal size (v.content 0) w.history place (journal_of_image size v.content w.history reads) bad)
+    (λ more. not_bad_journal size (v.content 0) (w.history ++ more.0 ∷ []) place (journal_of_image size v.content (w.history ++ more.0 ∷ []) more.2) bad)
+    (images v.content sound.reads_as_image)
+
+-- Nor is that of a settled store.
+pub settled_never_bad : (size : ℕ) (v : View) (steps : List HistoryStep) (place : ℕ) → IsSettled size v steps → IsBadJournal size (v.content 0) place → ⊥
+settled_never_bad size v steps place settled bad = not_bad_journal size (v.content 0) steps place (journal_of_image size v.content steps settled.now) bad
 
 module _ (size : ℕ) (v : View) (only : OnlyContent 0 v) (payloads : List (List ℕ)) (read : HoldsRecords (v.content 0) 0 payloads size) where
   -- The payloads that were read are the written forms of each history that an image reads as.
@@ -97,9 +114,12 @@ settled_after_reading size u v steps h settled = record {
   each = λ c image. settled.each c (λ a. h.images a (c a) (image a));
 }
 
--- And pinned.
-pub pinned_after_reading : (size : ℕ) (u v : View) (steps : List HistoryStep) → IsSound u → IsSound v → OnlyRead u v → ((c : Image) → IsImage u c → Reads size c steps) → IsPinned size v steps
-pinned_after_reading size u v steps sound sound_then h reads = pinned_by_images size v steps sound_then (λ c image. reads c (λ a. h.images a (c a) (image a)))
+-- They leave it pinned.
+pub pinned_after_reading : (size : ℕ) (u v : View) (steps : List HistoryStep) → OnlyRead u v → IsPinned size u steps → IsPinned size v steps
+pinned_after_reading size u v steps h pinned = record {
+  records = record { each = λ c left. pinned.records.each c (h.images 0 c left) };
+  bytes = stand_in_fewer u v (extents (after steps)) h.images pinned.bytes;
+}
 
 module _ (size : ℕ) (v : View) (before : List HistoryStep) (settled : IsSettled size v before) (only : OnlyContent 0 v) (payloads : List (List ℕ)) (read : HoldsRecords (v.content 0) 0 payloads size) where
   settled_forms : payloads ≡ written_forms before

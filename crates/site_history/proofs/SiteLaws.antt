@@ -1,5 +1,5 @@
 -- What holds of the site after any history: `orderly`. `found-file` says it of the file that a path finds, `there-file` of the
--- file of an inode that is there, and `placed-file` of the file at a place of the list, as code has it.
+-- file of an inode that is there, and `placed-file` and `indexed-file` of the file at a place of the list, as code has it.
 use Rattle.std.proofs.Common.{◌≡◌, ℕ, ◌+◌, ◌<◌, ◌≤◌, ◌^◌, List, [], ◌∷◌, ◌++◌, length, get_or, set, map, refl, sym, ◌∙◌, ap, subst, arith, Option, Some, None, length-append}
 use Rattle.std.specs.Prelude.{MatchOption, ◌==◌, find, IsTrue}
 use Rattle.std.specs.Option.{option_map_or}
@@ -25,8 +25,8 @@ use Rattle.site_history.specs.Histories.{after, IsHistory}
 use Rattle.site_history.proofs.HistoryLaws.{history-counts}
 use Rattle.site_history.proofs.FileLaws.{AreBelow, AreRisingFrom, are_below-more, with_file-new, with_file-set, without_file-remove, rising_at, below_at, rising-push, rising-set, rising-accessed, rising-without, all-push, all-below, all-set, all-accessed, all-without, all_at, length-without}
 use Rattle.site_history.proofs.ByteLaws.{bytes_of-with_same, bytes_of-with_other, bytes_of-without}
-use Rattle.site_history.proofs.HeldRuns.{held-accessed, pushed-disjoint, pushed-there, replaced-disjoint, replaced-there, removed-disjoint, removed-there}
-use Rattle.site_history.proofs.Finds.{StandsAt, found-stands, any-stands, find-inode, any-inode}
+use Rattle.site_history.proofs.HeldRuns.{held-accessed, there-at, pushed-disjoint, pushed-there, replaced-disjoint, replaced-there, removed-disjoint, removed-there}
+use Rattle.site_history.proofs.Finds.{StandsAt, stands-at, found-stands, any-stands, find-inode, any-inode}
 
 -- What holds of a file after so many steps, the last at this moment: it is whole in the cache and its bytes are kept; its runs
 -- are maximal and as many blocks as its length needs; no moment of it is later.
@@ -288,6 +288,7 @@ pub record IsFileOf (count : ℕ) (site : Site) (file : FileRec) : Type 0 where
   pub below : file.inode < site.fields.next_inode
   pub finds : find (λ (f : FileRec). f.inode == file.inode) site.fields.files ≡ Some file
   pub there : IsThere site.fields file.inode
+  pub runs : AreThere site.fields.blocks file.runs
 
 module _ (count : ℕ) (site : Site) (orderly : IsOrderly count site) where
   -- the file at a place
@@ -305,7 +306,11 @@ module _ (count : ℕ) (site : Site) (orderly : IsOrderly count site) where
         below = omega (arith, same, high);
         finds = find-inode 1 file.inode site.fields.files stands.place file orderly.rising stands.within same ∙ ap (λ (f : FileRec). Some f) e;
         there = any-inode file.inode site.fields.files stands.place file stands.within same;
+        runs = subst (λ (f : FileRec). AreThere site.fields.blocks f.runs) e (there-at site.fields.blocks site.fields.files stands.place file stands.within orderly.there);
       }
+
+  pub indexed-file : (i : ℕ) (d : FileRec) → i < length site.fields.files → IsFileOf count site (get_or site.fields.files i d)
+  indexed-file i d lt = placed-file (get_or site.fields.files i d) (stands-at site.fields.files i d lt)
 
   -- the file that a path finds has that path
   pub found-file : (path : List ℕ) (file : FileRec) → file_at path site.fields.files ≡ Some file → IsFileOf count site file × (file.path ≡ path)

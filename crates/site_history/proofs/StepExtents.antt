@@ -1,20 +1,17 @@
 -- The bytes of a site still stand after each step.
-use Rattle.std.proofs.Common.{◌≡◌, ◌≢◌, ◌⊎◌, inl, inr, ℕ, ◌+◌, ◌≤◌, ◌<◌, Bool, true, false, not, cond, ◌==◌, List, [], ◌∷◌, ◌++◌, length, take, map, filter, Option, Some, None, refl, sym, ◌∙◌, ap, subst, arith}
-use Rattle.std.specs.Prelude.{flat_map, MatchOption}
+use Rattle.std.proofs.Common.{◌≡◌, inl, inr, ℕ, Bool, true, false, not, cond, ◌==◌, List, [], ◌∷◌, length, take, map, Option, Some, None, refl, sym, ◌∙◌, ap, subst, arith}
+use Rattle.std.specs.Prelude.{flat_map}
 use Rattle.std.specs.Option.{option_map_or}
-use Rattle.std.specs.List.{AllByRecursion}
 use Rattle.std.proofs.lemmas.Bool.{cases_eq, eq-eqb, ne_eqb}
 use Rattle.std.proofs.lemmas.List.{take_all}
 use Rattle.bank.specs.View.{View}
 use Rattle.records.specs.declared.file.FileRec.{FileRec}
-use Rattle.records.specs.declared.file.Run.{Run}
-use Rattle.records.specs.declared.step.Step.{Step}
 use Rattle.records.specs.declared.step.StepKind.{StepKind}
 use Rattle.records.specs.declared.step.StepKind.TheVariants.{Put, Accessed, Removed}
-use Rattle.site_history.specs.Site.{Fields, FileBytes, Site, file_at, with_file, with_bytes, bytes_of}
-use Rattle.site_history.specs.Steps.{HistoryStep, PutOf, stored_file, inode_for, accessed_by, without_file, without_bytes, put_effect, effect, IsLegalPut, IsLegal, HasBytes}
+use Rattle.site_history.specs.Site.{FileBytes, Site, file_at, with_file, with_bytes, bytes_of}
+use Rattle.site_history.specs.Steps.{HistoryStep, PutOf, stored_file, inode_for, accessed_by, without_file, without_bytes, put_effect, effect, IsLegal, HasBytes}
 use Rattle.site_history.specs.Images.{Extent, extents_over, extents_of, extents}
-use Rattle.site_history.specs.Pinned.{StandInAll}
+use Rattle.site_history.specs.Pinned.{StandInAll, put_extents}
 use Rattle.site_history.proofs.Extents.{stand_append, stand_front, stand_back}
 use Rattle.site_history.proofs.DistinctInodes.{HasNone, AreDistinct}
 use Rattle.site_history.proofs.FileBytesLaws.{bytes_of-with, bytes_of-with_other, bytes_of-without}
@@ -90,14 +87,6 @@ module _ (v : View) where
         (stand_front v (extents_of contents file) (flat_map (extents_of contents) files) h))
         (removed_stands inode contents files (stand_back v (extents_of contents file) (flat_map (extents_of contents) files) h)))
   ]
-
--- What a put stores, as extents; no other step stores any.
-abbrev pub put_extents : HistoryStep → List Extent
-put_extents made = by_kind made.step.kind
-  where
-    by_kind : StepKind → List Extent
-    by_kind (Put inode path owner group size runs) = extents_over runs made.bytes
-    by_kind _ = []
 
 -- The file of a put has its inode, its runs and as many cached bytes as its length.
 stored_inode : (o : Option FileRec) (moment next : ℕ) (put : PutOf) → put.inode ≡ option_map_or (λ (file : FileRec). file.inode) o next → (stored_file o moment put).inode ≡ put.inode

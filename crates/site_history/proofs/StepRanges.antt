@@ -1,7 +1,7 @@
 -- The steps of puts, reads and removals are in range, and short enough for a record. `put_in_range` and `put_short` serve the
 -- code that writes a put's step down, which knows the rules that it tested; `bare_in_range` and `bare_short` that of a read and
 -- of a removal; `legal-payload` any step that may come.
-use Rattle.std.proofs.Common.{◌≡◌, ℕ, ◌<◌, ◌≤◌, ◌^◌, List, length, ap, arith, true}
+use Rattle.std.proofs.Common.{◌≡◌, ℕ, ◌<◌, ◌≤◌, ◌^◌, List, length, arith, true}
 use Rattle.std.specs.Prelude.{IsTrue}
 use Rattle.std.specs.List.{AllByRecursion}
 use Rattle.std.proofs.lemmas.Bool.Decides.{nat_tests}
@@ -11,15 +11,13 @@ use Rattle.records.specs.Ranges.{IsRun, IsInode}
 use Rattle.records.specs.Written.{written, InRange}
 use Rattle.records.proofs.Lengths.{length-written, written_some}
 use Rattle.records.proofs.InRange.{in_range}
-use Rattle.records.specs.declared.file.Run.{Run}
 use Rattle.records.specs.declared.step.Step.{Step}
 use Rattle.records.specs.declared.step.StepKind.{StepKind}
 use Rattle.records.specs.declared.step.StepKind.TheVariants.{Put, Accessed, Removed}
 use Rattle.cache_space.specs.Blocks.{blocks_for}
-use Rattle.cache_space.specs.Space.{blocks_in}
 use Rattle.journal.specs.Records.{IsPayload}
 use Rattle.site_history.specs.Site.{Fields}
-use Rattle.site_history.specs.Steps.{PutOf, IsLegalPut, IsLegal}
+use Rattle.site_history.specs.Steps.{PutOf, IsLegal}
 use Rattle.site_history.proofs.RunRanges.{maximal-few}
 
 -- the step of a put

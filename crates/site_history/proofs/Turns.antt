@@ -4,7 +4,7 @@
 -- has no room, `made-turn` where the step is acknowledged, `owes-turn` where the journal failed, `stays-turn` where another area
 -- did, `memory-turn` where memory was wanting.
 use Rattle.std.proofs.Common.{◌≡◌, ℕ, ◌+◌, ◌<◌, ◌≤◌, List, [], ◌∷◌, ◌++◌, length, take, refl, sym, ◌∙◌, ap, subst, arith, Bool, true, false, cond, Option, Some, None}
-use Rattle.std.specs.Prelude.{◌==◌, nat_le, is_none, IsTrue}
+use Rattle.std.specs.Prelude.{is_none, IsTrue}
 use Rattle.std.proofs.lemmas.Bool.{le-leb, lt-leb, eq-eqb, ne_eqb}
 use Rattle.records.specs.declared.event.Event.{Event}
 use Rattle.records.specs.declared.event.Event.TheVariants.{Put as PutEvent, Read as ReadEvent, Remove as RemoveEvent}

@@ -1,8 +1,8 @@
 -- Calls that write within chosen bytes of one area, where no byte of a history's files is chosen.
-use Rattle.std.proofs.Common.{◌≡◌, ◌≢◌, ◌⊎◌, inl, inr, ℕ, ◌+◌, ◌-◌, ◌<◌, ◌≤◌, Bool, false, List, [], ◌∷◌, ◌++◌, length, sym, ◌∙◌, ap, subst, arith}
+use Rattle.std.proofs.Common.{◌≡◌, ◌≢◌, inl, inr, ℕ, ◌+◌, ◌-◌, Bool, List, [], ◌∷◌, ◌++◌, sym, ◌∙◌, ap, subst, arith}
 use Rattle.std.proofs.lemmas.Bool.{cases_eq}
 use Rattle.bank.specs.Content.{Content, Image, Stands}
-use Rattle.bank.specs.View.{View, LeavesOnly, OnlyContent}
+use Rattle.bank.specs.View.{View, LeavesOnly}
 use Rattle.bank.specs.Inside.{SameBeside, IsTornInside, WroteInside}
 use Rattle.bank.proofs.Spans.{Stands-same}
 use Rattle.bank.proofs.Moments.{weakened}

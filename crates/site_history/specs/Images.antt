@@ -1,6 +1,6 @@
 -- What an image of the store says of a site.
-use Rattle.std.specs.Prelude.{◌≡◌, ◌⊎◌, ℕ, ◌+◌, ◌*◌, ◌<◌, ◌==◌, Some, List, [], ◌∷◌, ◌++◌, length, take, drop, map, flat_map}
-use Rattle.bank.specs.Content.{Image, Stands, Same}
+use Rattle.std.specs.Prelude.{◌≡◌, ◌⊎◌, ℕ, ◌+◌, ◌*◌, ◌<◌, Some, List, [], ◌∷◌, ◌++◌, length, take, drop, map, flat_map}
+use Rattle.bank.specs.Content.{Image, Stands}
 use Rattle.bank.specs.View.{View, IsImage}
 use Rattle.journal.specs.Records.{HoldsRecords}
 use Rattle.records.specs.declared.file.FileRec.{FileRec}
@@ -74,10 +74,10 @@ abbrev pub SameAt : Image → Image → List Extent → Type 0
 SameAt c d [] = Unit {0}
 SameAt c d (e ∷ es) = ((k : ℕ) → k < length e.bytes → d e.area (e.place + k) ≡ c e.area (e.place + k)) × SameAt c d es
 
--- two images agree in the journal and wherever a site's bytes lie
-abbrev pub Agree : Image → Image → List HistoryStep → Type 0
-Agree c d steps = Same (c 0) (d 0) × SameAt c d (extents (after steps))
+-- two images agree in the journal, which has this size, and wherever a site's bytes lie
+abbrev pub Agree : ℕ → Image → Image → List HistoryStep → Type 0
+Agree size c d steps = ((k : ℕ) → k < size → d 0 k ≡ c 0 k) × SameAt c d (extents (after steps))
 
 -- then both read as the history or neither does
 abbrev pub AgreeingReadAlike : Type 0
-AgreeingReadAlike = (size : ℕ) (c d : Image) (steps : List HistoryStep) → Agree c d steps → Reads size c steps → Reads size d steps
+AgreeingReadAlike = (size : ℕ) (c d : Image) (steps : List HistoryStep) → Agree size c d steps → Reads size c steps → Reads size d steps

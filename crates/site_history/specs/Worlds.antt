@@ -95,14 +95,16 @@ RefusesReopening told NoMemory = Unit {0}
 RefusesReopening told (BadJournal place) = told ≡ false
 RefusesReopening told _ = ⊥
 
+-- an event where a reopening is due or not
+abbrev pub EventTurnBy : Bool → ℕ → Bool → World → Event → ℕ → ℕ → Reply → World → Type 0
+EventTurnBy false size told w event now area reply w' = Turn size told w.history event (moment_of w.clock now) area reply w'
+EventTurnBy true size told w event now area reply w' =
+    ((steps : List HistoryStep) × IsReopened told w steps × Turn size told steps event (moment_of (clock_from told w steps) now) area reply w')
+    ⊎ (RefusesReopening told reply × (w' ≡ w))
+
 -- An event in a world: a turn; where a reopening is due, a turn from where that leads, or the reopening is refused.
 abbrev pub EventTurn : ℕ → Bool → World → Event → ℕ → ℕ → Reply → World → Type 0
-EventTurn size told w event now area reply w' = by_due w.due
-  where
-    by_due : Bool → Type 0
-    by_due false = Turn size told w.history event (moment_of w.clock now) area reply w'
-    by_due true = ((steps : List HistoryStep) × IsReopened told w steps × Turn size told steps event (moment_of (clock_from told w steps) now) area reply w')
-        ⊎ (RefusesReopening told reply × (w' ≡ w))
+EventTurn size told w event now area reply w' = EventTurnBy w.due size told w event now area reply w'
 
 -- the history that a store is opened with: that for which it is settled; where it tells nothing, that of the journal as read
 abbrev pub IsFound : Bool → List HistoryStep → List HistoryStep → Type 0
