@@ -73,10 +73,10 @@ module _ (count : ℕ) (site : Site) (orderly : IsOrderly count site) (old : Sit
         let one : file ≡ at.item = cc in
         let runs : (get_or site.fields.files index at.item).runs ≡ file.runs = ap (λ (f : FileRec). f.runs) (here at.item ∙ sym one) in
         gives site.fields.blocks (held_runs (remove site.fields.files index))
-            (keeps.space ∙ removed-taken site.fields.blocks site.fields.files index at.item within_fields
-            ∙ ap (λ (l : List Run). taken_by site.fields.blocks (held_runs (remove site.fields.files index) ++ l)) runs)
-            (subst (λ (l : List Run). AreApart (held_runs (remove site.fields.files index)) l) runs
-            (removed-apart site.fields.blocks site.fields.files index at.item within_fields orderly.disjoint))
+        (keeps.space ∙ removed-taken site.fields.blocks site.fields.files index at.item within_fields
+        ∙ ap (λ (l : List Run). taken_by site.fields.blocks (held_runs (remove site.fields.files index) ++ l)) runs)
+        (subst (λ (l : List Run). AreApart (held_runs (remove site.fields.files index)) l) runs
+        (removed-apart site.fields.blocks site.fields.files index at.item within_fields orderly.disjoint))
         ∙ ap (λ (l : List FileRec). taken_by site.fields.blocks (held_runs l))
         (sym (without_file-remove 1 inode site.fields.files index at.item orderly.rising within_fields of_inode))
 
@@ -139,12 +139,12 @@ module _ (count : ℕ) (site : Site) (orderly : IsOrderly count site) (old : Sit
           let before : (get_or site.fields.files index at_file.item).runs ≡ runs = ap (λ (f : FileRec). f.runs) (replaced_here at_file.item) ∙ sym (of_file at_file.item there_now) in
           let new = stored_file (Some at_file.item) moment put in
           gives site.fields.blocks (held_runs (set site.fields.files index new))
-              (holds site.fields.blocks (held_runs site.fields.files) keeps.space
-              ∙ ap (λ (l : List Run). taken_by site.fields.blocks (held_runs site.fields.files ++ l)) same
-              ∙ replaced-taken site.fields.blocks site.fields.files index at_file.item replaced_within new
-              ∙ ap (λ (l : List Run). taken_by site.fields.blocks (held_runs (set site.fields.files index new) ++ l)) before)
-              (subst (λ (l : List Run). AreApart (held_runs (set site.fields.files index new)) l) before
-              (replaced-apart site.fields.blocks site.fields.files index at_file.item replaced_within new orderly.disjoint legal.free.1))
+          (holds site.fields.blocks (held_runs site.fields.files) keeps.space
+          ∙ ap (λ (l : List Run). taken_by site.fields.blocks (held_runs site.fields.files ++ l)) same
+          ∙ replaced-taken site.fields.blocks site.fields.files index at_file.item replaced_within new
+          ∙ ap (λ (l : List Run). taken_by site.fields.blocks (held_runs (set site.fields.files index new) ++ l)) before)
+          (subst (λ (l : List Run). AreApart (held_runs (set site.fields.files index new)) l) before
+          (replaced-apart site.fields.blocks site.fields.files index at_file.item replaced_within new orderly.disjoint legal.free.1))
           ∙ ap (λ (l : List FileRec). taken_by site.fields.blocks (held_runs l)) (set_with ∙ put_files (Some at_file.item) there)
 
     -- the path has none: the file is new

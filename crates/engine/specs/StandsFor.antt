@@ -6,7 +6,7 @@ use Rattle.cache_space.specs.Space.{taken_by}
 use Rattle.site_history.specs.Site.{Fields, held_runs}
 use Rattle.site_history.specs.Steps.{HistoryStep}
 use Rattle.site_history.specs.Histories.{after, IsHistory, journal_length}
-use Rattle.site_history.specs.Worlds.{World, site_of}
+use Rattle.site_history.specs.Worlds.{World, site_of, at, IsReopened, clock_from}
 use Rattle.site_history.specs.Images.{ReadsAs}
 use Rattle.engine.specs.declared.kept.SiteFiles.{SiteFiles}
 use Rattle.engine.specs.declared.kept.Engine.{Engine}
@@ -41,3 +41,15 @@ pub record StandsFor {B P : Type 0} (told : Bool) (view : B → View) (engine : 
 pub record Moves {B P : Type 0} (told : Bool) (view : B → View) (old new : Engine B P) (w w' : World) : Type 0 where
   pub stands : StandsFor told view new w'
   pub moments : IsTrue told → LeavesOnly (view old.bank) (view new.bank) (λ c. ReadsAs old.journal.size w c ⊎ ReadsAs old.journal.size w' c)
+
+-- A reopening came to a history, and the engine stands for it. Each image meanwhile reads as the world.
+pub record IsRecovered {B P : Type 0} (told : Bool) (view : B → View) (old new : Engine B P) (w : World) : Type 0 where
+  pub steps : List HistoryStep
+  pub reopened : IsReopened told w steps
+  pub stands : StandsFor told view new (at steps (clock_from told w steps))
+  pub moments : IsTrue told → LeavesOnly (view old.bank) (view new.bank) (ReadsAs old.journal.size w)
+
+-- It stands for the world still, and each image meanwhile reads as it.
+pub record StaysFor {B P : Type 0} (told : Bool) (view : B → View) (old new : Engine B P) (w : World) : Type 0 where
+  pub stands : StandsFor told view new w
+  pub moments : IsTrue told → LeavesOnly (view old.bank) (view new.bank) (ReadsAs old.journal.size w)

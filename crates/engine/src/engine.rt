@@ -1,22 +1,26 @@
 //! Events over a store.
 
-ghost use Rattle.std.specs.Prelude.{◌≡◌, ◌≢◌, ◌≤◌, ◌<◌, ◌^◌, ℕ, [], false, true, length, IfOk, IfErr, MatchResult, IsTrue, OnOk, Bool, List};
+ghost use Rattle.std.specs.Prelude.{◌≡◌, ◌≢◌, ◌≤◌, ◌<◌, ◌^◌, ℕ, [], false, true, length, IfOk, IfErr, MatchResult, IsTrue, OnOk, OnErr, Bool, List};
 ghost use Rattle.site_text.specs.Causes.{Rose};
 ghost use Rattle.bank.specs.View.{OnlyRead};
 ghost use Rattle.site_history.specs.Steps.{HistoryStep};
-ghost use Rattle.site_history.specs.Worlds.{World, EventTurn, new_world, IsFound};
+ghost use Rattle.site_history.specs.Worlds.{World, EventTurn, new_world, IsFound, RefusesReopening};
 ghost use Rattle.site_history.specs.Images.{IsSettled};
 ghost use Rattle.site_history.specs.Journals.{HoldsHistory};
-ghost use Rattle.engine.specs.StandsFor.{StandsFor, Moves};
+ghost use Rattle.engine.specs.StandsFor.{StandsFor, Moves, IsRecovered, StaysFor};
 ghost use Rattle.engine.specs.Journals.{TellsJournal, RepliesJournal};
 
 use crate::kept::Engine;
+use crate::reopen::read_site;
 use bank::Bank;
 use records::{Event, Reply};
 use std::alloc::Global;
 
 /// The last moment, in seconds.
 const LAST_MOMENT: u64 = (1 << 40) - 1;
+
+/// The longest payload of a record, in bytes.
+const PAYLOAD_MAX: usize = 1_048_576;
 
 /// Why a store was not opened.
 #[derive(Clone, Copy, Debug, PartialEq, Eq)]
@@ -60,13 +64,60 @@ impl<B: Bank, P: Drop> Engine<B, P> {
         ensures later { MatchResult result (λ engine. B.faults bank ≤ B.faults engine.bank) (λ shut. B.faults bank ≤ B.faults shut.bank) }
         ensures patterns { MatchResult result (λ engine. engine.patterns ≡ patterns) (λ shut. shut.patterns ≡ patterns) }
     {
-        let _ = alloc;
-        let _ = journal_bytes;
-        Err(Shut {
-            cause: ShutCause::NoMemory,
-            bank,
-            patterns,
-        })
+        let mut bank = bank;
+        let Ok(payload) = Vec::with_capacity(alloc, PAYLOAD_MAX) else {
+            return Err(Shut {
+                cause: ShutCause::NoMemory,
+                bank,
+                patterns,
+            });
+        };
+        match read_site(alloc, &mut bank, journal_bytes) {
+            Ok((journal, site)) => Ok(Engine {
+                alloc,
+                bank,
+                patterns,
+                steps: journal.count(),
+                clock: site.moment,
+                journal,
+                site,
+                payload,
+                due: false,
+            }),
+            Err(cause) => Err(Shut {
+                cause,
+                bank,
+                patterns,
+            }),
+        }
+    }
+
+    // Reads the site again, which is due, and keeps it. On an error nothing is changed but the store.
+    fn recover(&mut self) -> Result<(), Reply>
+        ensures recovered { (told : Bool) → (IsTrue told → IsTrue B.tells) → (w : World) → StandsFor told B.view self.old w → self.old.due ≡ true
+            → MatchResult result (λ _. IsRecovered told B.view self.old self.new w) (λ reply. RefusesReopening told reply × StaysFor told B.view self.old self.new w) }
+        ensures ok { OnOk result (self.new.due ≡ false) }
+        ensures err { OnErr result (self.new ≡ record self.old { bank = self.new.bank }) }
+        ensures size { self.new.journal.size ≡ self.old.journal.size }
+        ensures patterns { self.new.patterns ≡ self.old.patterns }
+        ensures unchanged { IsTrue B.tells → OnlyRead (B.view self.old.bank) (B.view self.new.bank) }
+        ensures bad_journal { IsTrue B.tells → IfErr result (RepliesJournal self.old.journal.size ((B.view self.new.bank).content 0)) }
+        ensures fault { IfErr result (λ reply. reply ≡ Reply.BankFault → Rose (B.faults self.old.bank) (B.faults self.new.bank)) }
+        ensures later { B.faults self.old.bank ≤ B.faults self.new.bank }
+    {
+        match read_site(self.alloc, &mut self.bank, self.journal.size()) {
+            Ok((journal, site)) => {
+                self.steps = journal.count();
+                self.clock = self.clock.max(site.moment);
+                self.journal = journal;
+                self.site = site;
+                self.due = false;
+                Ok(())
+            }
+            Err(ShutCause::BankFault) => Err(Reply::BankFault),
+            Err(ShutCause::BadJournal(place)) => Err(Reply::BadJournal(place)),
+            Err(ShutCause::NoMemory) => Err(Reply::NoMemory),
+        }
     }
 
     /// One event. Its moment is the greater of the clock and the lesser of `now` and 2^40 - 1. Where a reopening is due it

@@ -7,6 +7,8 @@ mod engine;
 mod files;
 mod kept;
 mod legal;
+mod reopen;
+mod replay;
 mod stored;
 
 pub use engine::{Shut, ShutCause};
