@@ -6,3 +6,4 @@ pub mod Reading
 pub mod Standing
 pub mod Waits
 pub mod Pieces
+pub mod Committing

@@ -2,6 +2,7 @@
 #![tactic(auto)]
 
 mod apply;
+mod commit;
 mod data;
 mod engine;
 mod files;
