@@ -7,3 +7,6 @@ pub mod Standing
 pub mod Waits
 pub mod Pieces
 pub mod Committing
+pub mod Found
+pub mod Turning
+pub mod Removing

@@ -91,11 +91,10 @@ fn read_run<B: Bank>(bank: &mut B, run: &Run, into: &mut [u8]) -> Result<(), Ban
     bank.read(1, first * BLOCK, into)
 }
 
-/// Reads the first bytes of those that stand over runs of blocks of the cache, one run after another, as many as `into` has.
-/// Of no bytes it makes no call. It writes nothing.
+/// Reads the first bytes of those that stand over runs of blocks of the cache, one run after another, as many as `into` has
+/// and the runs have room for. Of no bytes it makes no call. It writes nothing.
 pub fn load<B: Bank>(bank: &mut B, runs: &[Run], into: &mut [u8]) -> Result<(), BankFailed>
-    requires { length into.old ≤ blocks_in runs.now * 4096 }
-    ensures bytes { IsTrue B.tells → (bytes : Seq ℕ) → length into.old ≤ length bytes → AllStand (B.view bank.old).content (extents_over runs.now bytes)
+    ensures bytes { IsTrue B.tells → (bytes : Seq ℕ) → length into.old ≤ blocks_in runs.now * 4096 → length into.old ≤ length bytes → AllStand (B.view bank.old).content (extents_over runs.now bytes)
         → OnOk result (into.new ≡ take (length into.old) bytes) }
     ensures unchanged { IsTrue B.tells → OnlyRead (B.view bank.old) (B.view bank.new) }
     ensures cause { HasCause (B.faults bank.old) (B.faults bank.new) result }

@@ -8,6 +8,8 @@ mod engine;
 mod files;
 mod kept;
 mod legal;
+mod payload;
+mod remove;
 mod reopen;
 mod replay;
 mod stored;
