@@ -10,3 +10,4 @@ pub mod Committing
 pub mod Found
 pub mod Turning
 pub mod Removing
+pub mod Accessing

@@ -16,6 +16,16 @@ use Rattle.engine.specs.declared.kept.SiteFiles.{SiteFiles}
 use Rattle.engine.specs.declared.kept.Engine.{Engine}
 use Rattle.engine.specs.StandsFor.{Keeps, StandsFor, Moves}
 
+-- Files that are as they were are those of the same fields.
+pub keeps_again : (old new : SiteFiles) → new.files.list ≡ old.files.list → new.next_inode ≡ old.next_inode → new.moment ≡ old.moment → new.space ≡ old.space
+    → (fields : Fields) → Keeps old fields → Keeps new fields
+keeps_again old new files next_inode moment space fields k = record {
+  files = files ∙ k.files;
+  next_inode = next_inode ∙ k.next_inode;
+  moment = moment ∙ k.moment;
+  space = space ∙ k.space;
+}
+
 -- An engine whose files, journal, count and clock are as they were stands for the same world, if each image still reads as it.
 pub stands_still : {B P : Type 0} (told : Bool) (view : B → View) (old new : Engine B P) (w : World) → StandsFor told view old w
     → ((fields : Fields) → Keeps old.site fields → Keeps new.site fields) → new.journal ≡ old.journal → new.steps ≡ old.steps → new.clock ≡ old.clock → new.due ≡ old.due

@@ -1,6 +1,6 @@
 //! The bytes of files in the cache.
 
-ghost use Rattle.std.specs.Prelude.{◌≡◌, ◌+◌, ◌*◌, ◌<◌, ◌≤◌, ◌^◌, ℕ, List as Seq, IsTrue, length, take, OnOk, OnErr};
+ghost use Rattle.std.specs.Prelude.{◌≡◌, ◌+◌, ◌*◌, ◌<◌, ◌≤◌, ◌^◌, ℕ, List as Seq, IsTrue, length, take, IfOk, OnOk, OnErr};
 ghost use Rattle.site_text.specs.Causes.{HasCause};
 ghost use Rattle.bank.specs.Content.{Stands};
 ghost use Rattle.bank.specs.View.{Touches, OnlyRead};
@@ -91,9 +91,9 @@ fn read_run<B: Bank>(bank: &mut B, run: &Run, into: &mut [u8]) -> Result<(), Ban
     bank.read(1, first * BLOCK, into)
 }
 
-/// Reads the first bytes of those that stand over runs of blocks of the cache, one run after another, as many as `into` has
-/// and the runs have room for. Of no bytes it makes no call. It writes nothing.
-pub fn load<B: Bank>(bank: &mut B, runs: &[Run], into: &mut [u8]) -> Result<(), BankFailed>
+// Reads the first bytes of those that stand over runs of blocks of the cache, one run after another, as many as `into` has
+// and the runs have room for. Of no bytes it makes no call. It writes nothing.
+fn load<B: Bank>(bank: &mut B, runs: &[Run], into: &mut [u8]) -> Result<(), BankFailed>
     ensures bytes { IsTrue B.tells → (bytes : Seq ℕ) → length into.old ≤ blocks_in runs.now * 4096 → length into.old ≤ length bytes → AllStand (B.view bank.old).content (extents_over runs.now bytes)
         → OnOk result (into.new ≡ take (length into.old) bytes) }
     ensures unchanged { IsTrue B.tells → OnlyRead (B.view bank.old) (B.view bank.new) }
@@ -108,4 +108,23 @@ pub fn load<B: Bank>(bank: &mut B, runs: &[Run], into: &mut [u8]) -> Result<(), 
         done += count;
     }
     Ok(())
+}
+
+/// Reads the first bytes of those that stand over runs of blocks of the cache into all of a vector, which it gives back. Where
+/// the runs have room for fewer, the others stay. Of no bytes it makes no call. It writes nothing.
+pub fn load_all<B: Bank>(
+    bank: &mut B,
+    runs: &[Run],
+    mut into: Vec<u8>,
+) -> Result<Vec<u8>, BankFailed>
+    ensures bytes { IsTrue B.tells → (bytes : Seq ℕ) → length into.items ≤ blocks_in runs.now * 4096 → length into.items ≤ length bytes
+        → AllStand (B.view bank.old).content (extents_over runs.now bytes) → IfOk result (λ v. v.items ≡ take (length into.items) bytes) }
+    ensures length { IfOk result (λ v. length v.items ≡ length into.items) }
+    ensures unchanged { IsTrue B.tells → OnlyRead (B.view bank.old) (B.view bank.new) }
+    ensures cause { HasCause (B.faults bank.old) (B.faults bank.new) result }
+    ensures area { OnErr result (B.last_fault bank.new ≡ 1) }
+    ensures last { OnOk result (B.last_fault bank.new ≡ B.last_fault bank.old) }
+{
+    load(bank, runs, &mut into)?;
+    Ok(into)
 }

@@ -9,6 +9,7 @@ mod files;
 mod kept;
 mod legal;
 mod payload;
+mod read;
 mod remove;
 mod reopen;
 mod replay;
