@@ -11,3 +11,5 @@ pub mod Found
 pub mod Turning
 pub mod Removing
 pub mod Accessing
+pub mod Asking
+pub mod Putting

@@ -22,3 +22,16 @@ pub record IsReady {B P : Type 0} (told : Bool) (view : B → View) (engine : En
 -- a world that owes a step
 abbrev pub owing : List HistoryStep → ℕ → HistoryStep → World
 owing history clock made = record { history = history; clock = clock; due = true; owed = Some made }
+
+-- The engine is as it was but for its buffer and the room for files.
+pub record IsUnmoved {B P : Type 0} (old new : Engine B P) : Type 0 where
+  pub bank : new.bank ≡ old.bank
+  pub patterns : new.patterns ≡ old.patterns
+  pub journal : new.journal ≡ old.journal
+  pub files : new.site.files.list ≡ old.site.files.list
+  pub next_inode : new.site.next_inode ≡ old.site.next_inode
+  pub moment : new.site.moment ≡ old.site.moment
+  pub space : new.site.space ≡ old.site.space
+  pub steps : new.steps ≡ old.steps
+  pub clock : new.clock ≡ old.clock
+  pub due : new.due ≡ old.due

@@ -9,10 +9,12 @@ mod files;
 mod kept;
 mod legal;
 mod payload;
+mod put;
 mod read;
 mod remove;
 mod reopen;
 mod replay;
+mod rule;
 mod stored;
 
 pub use engine::{Shut, ShutCause};
