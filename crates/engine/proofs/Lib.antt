@@ -4,7 +4,6 @@ pub mod Effects
 pub mod Replaying
 pub mod Reading
 pub mod Standing
-pub mod Waits
 pub mod Pieces
 pub mod Committing
 pub mod Found
@@ -13,3 +12,4 @@ pub mod Removing
 pub mod Accessing
 pub mod Asking
 pub mod Putting
+pub mod Serving

@@ -18,6 +18,8 @@ ghost use Rattle.site_history.specs.Worlds.{World, at, Turn};
 ghost use Rattle.engine.specs.Fields.{put_runs};
 ghost use Rattle.engine.specs.Ready.{IsUnmoved};
 ghost use Rattle.engine.specs.Room.{HasRoomFor};
+ghost use Rattle.bank.specs.Content.{Content};
+ghost use Rattle.engine.specs.Journals.{RepliesJournal};
 ghost use Rattle.engine.specs.StandsFor.{Keeps, StandsFor, Moves};
 
 use crate::data::store;
@@ -101,6 +103,7 @@ impl<B: Bank, P: Drop> Engine<B, P> {
         ensures fault { result ≡ Reply.BankFault → Rose (B.faults self.old.bank) (B.faults self.new.bank) }
         ensures later { B.faults self.old.bank ≤ B.faults self.new.bank }
         ensures ready { result ≢ Reply.BankFault → self.new.due ≡ false }
+        ensures journal { (size : ℕ) (c : Content) → RepliesJournal size c result }
         ensures size { self.new.journal.size ≡ self.old.journal.size }
         ensures patterns { self.new.patterns ≡ self.old.patterns }
         ensures moment { IsTrue B.tells → (B.view self.old.bank).moment ≤ (B.view self.new.bank).moment }

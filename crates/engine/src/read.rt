@@ -1,10 +1,12 @@
 //! Reads.
 
-ghost use Rattle.std.specs.Prelude.{◌≡◌, ◌≢◌, ◌≤◌, false, Bool, List as Seq, IsTrue};
+ghost use Rattle.std.specs.Prelude.{ℕ, ◌≡◌, ◌≢◌, ◌≤◌, false, Bool, List as Seq, IsTrue};
 ghost use Rattle.site_text.specs.Causes.{Rose};
 ghost use Rattle.records.specs.declared.event.Event.TheVariants.{Read as ReadEvent};
 ghost use Rattle.site_history.specs.Steps.{HistoryStep};
 ghost use Rattle.site_history.specs.Worlds.{World, at, Turn};
+ghost use Rattle.bank.specs.Content.{Content};
+ghost use Rattle.engine.specs.Journals.{RepliesJournal};
 ghost use Rattle.engine.specs.StandsFor.{StandsFor, Moves};
 
 use crate::data::load_all;
@@ -23,6 +25,7 @@ impl<B: Bank, P: Drop> Engine<B, P> {
         ensures fault { result ≡ Reply.BankFault → Rose (B.faults self.old.bank) (B.faults self.new.bank) }
         ensures later { B.faults self.old.bank ≤ B.faults self.new.bank }
         ensures ready { result ≢ Reply.BankFault → self.new.due ≡ false }
+        ensures journal { (size : ℕ) (c : Content) → RepliesJournal size c result }
         ensures size { self.new.journal.size ≡ self.old.journal.size }
         ensures patterns { self.new.patterns ≡ self.old.patterns }
         ensures moment { IsTrue B.tells → (B.view self.old.bank).moment ≤ (B.view self.new.bank).moment }
