@@ -104,11 +104,14 @@ module _ {B P : Type 0} (told : Bool) (view : B → View) (old new : Engine B P)
         owed_in_time = λ owed e. absurd (let no : None ≡ Some owed = e in cc);
         range = ready.stands.range;
         due = due;
-        in_step = λ not_due. (refl, record {
-          keeps = subst (λ (s : Site). Keeps new.site s.fields) (sym (after-push history made)) keeps;
-          count = omega (arith, count, count_is, length-push history made);
-          place = omega (arith, place, in_step_now.place, journal_length-push history made, ap length ready.form);
-        });
+        in_step = λ not_due. (
+          refl,
+          record {
+            keeps = subst (λ (s : Site). Keeps new.site s.fields) (sym (after-push history made)) keeps;
+            count = omega (arith, count, count_is, length-push history made);
+            place = omega (arith, place, in_step_now.place, journal_length-push history made, ap length ready.form);
+          },
+        );
         images = λ t c image. inl (subst (λ (n : ℕ). Reads n c (history ++ made ∷ [])) (sym size) (image_reads old.journal.size (view new.bank) c (history ++ made ∷ []) history_then (pinned_then t) image));
       }
 

@@ -98,8 +98,11 @@ module _ {B P : Type 0} (told : Bool) (view : B → View) (engine : Engine B P) 
 
     -- the bytes could not be stored
     pub put_stays : Moves told view engine mid (at history engine.clock) (at history engine.clock)
-    put_stays = record { stands = mid_stands; moments = λ t. weakened (view engine.bank) (view mid.bank) (ReadsAs engine.journal.size (at history engine.clock))
-        (λ c. ReadsAs engine.journal.size (at history engine.clock) c ⊎ ReadsAs engine.journal.size (at history engine.clock) c) (moments_still mid.bank sound wrote t) (λ c reads. inl reads) }
+    put_stays = record {
+      stands = mid_stands;
+      moments = λ t. weakened (view engine.bank) (view mid.bank) (ReadsAs engine.journal.size (at history engine.clock))
+          (λ c. ReadsAs engine.journal.size (at history engine.clock) c ⊎ ReadsAs engine.journal.size (at history engine.clock) c) (moments_still mid.bank sound wrote t) (λ c reads. inl reads);
+    }
 
     module _ (step : Step) (is : step ≡ put_made (after history).fields engine.clock path owner group (length bytes)) (form : mid.payload.items ≡ written step)
         (stored : IsTrue told → StandInAll (view mid.bank) (extents_over (put_runs step) bytes)) where

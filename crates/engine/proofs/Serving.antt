@@ -6,6 +6,7 @@ use Rattle.bank.specs.View.{View, IsImage, LeavesOnly}
 use Rattle.bank.proofs.Moments.{weakened, joined}
 use Rattle.journal.specs.State.{JournalState}
 use Rattle.records.specs.declared.event.Event.{Event}
+use Rattle.records.specs.declared.event.Event.TheVariants.{Put as PutEvent}
 use Rattle.records.specs.declared.reply.Reply.{Reply}
 use Rattle.site_history.specs.Site.{Fields}
 use Rattle.site_history.specs.Steps.{HistoryStep}
@@ -20,7 +21,7 @@ use Rattle.engine.specs.StandsFor.{Keeps, IsInStep, StandsFor, Moves, IsRecovere
 pub stands_later : {B P : Type 0} (told : Bool) (view : B → View) (old new : Engine B P) (history : List HistoryStep) (clock : ℕ) → StandsFor told view old (at history clock)
     → new.bank ≡ old.bank → ((fields : Fields) → Keeps old.site fields → Keeps new.site fields) → new.journal ≡ old.journal → new.steps ≡ old.steps → new.due ≡ old.due
     → (n : ℕ) → new.clock ≡ n → clock ≤ n → n < 2 ^ 40 → StandsFor told view new (at history n)
-stands_later told view old new history clock s bank keeps journal steps due n is later range = record {
+stands_later {B = B} told view old new history clock s bank keeps journal steps due n is later range = record {
   history = s.history;
   steps = steps ∙ s.steps;
   clock = is;
@@ -28,11 +29,14 @@ stands_later told view old new history clock s bank keeps journal steps due n is
   owed_in_time = λ made e. absurd (let no : None ≡ Some made = e in cc);
   range = range;
   due = due ∙ s.due;
-  in_step = λ not_due. (refl, let was = (s.in_step s.due).1 in record {
-    keeps = keeps (after history).fields was.keeps;
-    count = ap (λ (j : JournalState). j.count) journal ∙ was.count;
-    place = ap (λ (j : JournalState). j.place) journal ∙ was.place;
-  });
+  in_step = λ not_due. (
+    refl,
+    let was = (s.in_step s.due).1 in record {
+      keeps = keeps (after history).fields was.keeps;
+      count = ap (λ (j : JournalState). j.count) journal ∙ was.count;
+      place = ap (λ (j : JournalState). j.place) journal ∙ was.place;
+    },
+  );
   images = λ t c image. still c (s.images t c (subst (λ (b : B). IsImage (view b) c) bank image));
 }
   where
@@ -48,7 +52,7 @@ reads_at size history clock n c (inr r) = absurd (let no : None ≡ Some r.0 = r
 -- The event is served behind the later moment.
 pub moves_from : {B P : Type 0} (told : Bool) (view : B → View) (old mid new : Engine B P) (history : List HistoryStep) (clock n : ℕ) (w : World) → mid.bank ≡ old.bank → mid.journal ≡ old.journal
     → Moves told view mid new (at history n) w → Moves told view old new (at history clock) w
-moves_from told view old mid new history clock n w bank journal moves = record {
+moves_from {B = B} told view old mid new history clock n w bank journal moves = record {
   stands = moves.stands;
   moments = λ t. subst (λ (b : B). LeavesOnly (view b) (view new.bank) (λ c. ReadsAs old.journal.size (at history clock) c ⊎ ReadsAs old.journal.size w c)) bank
       (subst (λ (j : JournalState). LeavesOnly (view mid.bank) (view new.bank) (λ c. ReadsAs j.size (at history clock) c ⊎ ReadsAs j.size w c)) journal
@@ -121,3 +125,7 @@ event_refused told view old new w s due size event now area reply refuses stays 
     moments = λ t. weakened (view old.bank) (view new.bank) (ReadsAs old.journal.size w) (λ c. ReadsAs old.journal.size w c ⊎ ReadsAs old.journal.size w c) (stays.moments t) (λ c reads. inl reads);
   },
 )
+
+-- A put of the same bytes is the same event.
+pub same_put : (path owner group bytes a b c d : List ℕ) → a ≡ path → b ≡ owner → c ≡ group → d ≡ bytes → PutEvent a b c d ≡ PutEvent path owner group bytes
+same_put path owner group bytes a b c d e f g h = cc

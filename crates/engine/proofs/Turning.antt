@@ -59,8 +59,11 @@ module _ {B P : Type 0} (told : Bool) (view : B → View) (old new : Engine B P)
 
   -- and so the world stays
   pub stays_here : Moves told view old new w w
-  stays_here = record { stands = stands_read; moments = λ t. weakened (view old.bank) (view new.bank) (ReadsAs old.journal.size w)
-      (λ c. ReadsAs old.journal.size w c ⊎ ReadsAs old.journal.size w c) (moments_of_reading old.journal.size (view old.bank) (view new.bank) w (only t) (s.images t)) (λ c reads. inl reads) }
+  stays_here = record {
+    stands = stands_read;
+    moments = λ t. weakened (view old.bank) (view new.bank) (ReadsAs old.journal.size w)
+        (λ c. ReadsAs old.journal.size w c ⊎ ReadsAs old.journal.size w c) (moments_of_reading old.journal.size (view old.bank) (view new.bank) w (only t) (s.images t)) (λ c reads. inl reads);
+  }
 
 -- While nothing is written each image reads as the world.
 pub moments_since : {B P : Type 0} (told : Bool) (view : B → View) (old : Engine B P) (w : World) → StandsFor told view old w → (bank : B)

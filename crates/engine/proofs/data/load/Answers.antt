@@ -20,9 +20,9 @@ pub loop-run-preserved : goal.loop-run-preserved
 loop-run-preserved g c =
     let i = c.loop-run.invariant in
     let got : length c.read_run.new.into ≡ c.min-count.result =
-        omega (arith, c.read_run.auto.into, length-take (c.loop-run.done + c.min-count.result - c.loop-run.done) (drop c.loop-run.done c.loop-run.into), length-drop c.loop-run.done c.loop-run.into, c.min-count.ensures, i.done) in
+    omega (arith, c.read_run.auto.into, length-take (c.loop-run.done + c.min-count.result - c.loop-run.done) (drop c.loop-run.done c.loop-run.into), length-drop c.loop-run.done c.loop-run.into, c.min-count.ensures, i.done) in
     let long : length (put_mid c.loop-run.done (c.loop-run.done + c.min-count.result - c.loop-run.done) c.loop-run.into c.read_run.new.into) ≡ length c.loop-run.into =
-        same_len_mid c.loop-run.done (c.loop-run.done + c.min-count.result - c.loop-run.done) c.loop-run.into c.read_run.new.into c.read_run.auto.into in
+    same_len_mid c.loop-run.done (c.loop-run.done + c.min-count.result - c.loop-run.done) c.loop-run.into c.read_run.new.into c.read_run.auto.into in
     record {
       done = read_done c.args.runs.now c.loop-run.run-index _ c.loop-run-test.true c.loop-run.done c.room_of.result (length c.loop-run.into) c.min-count.result i.done c.room_of.ensures c.min-count.ensures
           ∙ ap (λ (n : ℕ). min (blocks_in (take (c.loop-run.run-index + 1) c.args.runs.now) * 4096) n) (sym long);

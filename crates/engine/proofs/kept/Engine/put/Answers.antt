@@ -30,8 +30,7 @@ returns-in-Some-clause-turn g c = λ told tells history stands. (
 
 pub returns-in_default-prepare_put-clause-turn : goal.returns-in_default-prepare_put-clause-turn
 returns-in_default-prepare_put-clause-turn g c = λ told tells history stands.
-    let u = c.prepare_put.ensures.unmoved in
-    (
+    let u = c.prepare_put.ensures.unmoved in (
       at history c.args.self.now.clock,
       refl,
       stays_here told g.B.Bank.view c.args.self.now _ (at history c.args.self.now.clock) stands (keeps_again _ _ u.files u.next_inode u.moment u.space) u.journal u.steps u.clock u.due (λ t. subst (λ (b : g.row.B.Denot). OnlyRead (g.B.Bank.view c.args.self.now.bank) (g.B.Bank.view b)) (sym u.bank) (nothing_read _ (g.met.B.Bank.sound _ (tells t)))),
@@ -47,8 +46,7 @@ returns-then-not-has_room-clause-turn g c = λ told tells history stands.
     let form : c.prepare_put.new.self.payload.items ≡ written (storing told g.B.Bank.view c.args.self.now history stands c.args.path.now c.args.owner.now c.args.group.now c.args.bytes.now rule).step = c.in-Ok.ensures.written ∙ ap written is in
     let place : c.prepare_put.new.self.journal.place ≡ journal_length history = ap (λ (j : JournalState). j.place) u.journal ∙ place_it told g.B.Bank.view c.args.self.now history stands in
     let size : c.prepare_put.new.self.journal.size ≡ c.args.self.now.journal.size = ap (λ (j : JournalState). j.size) u.journal in
-    let full : c.prepare_put.new.self.journal.size < c.prepare_put.new.self.journal.place + 6 + length c.prepare_put.new.self.payload.items = search rules in
-    (
+    let full : c.prepare_put.new.self.journal.size < c.prepare_put.new.self.journal.place + 6 + length c.prepare_put.new.self.payload.items = search rules in (
       at history c.args.self.now.clock,
       full-turn c.args.self.now.journal.size told history (PutEvent c.args.path.now c.args.owner.now c.args.group.now c.args.bytes.now) c.args.self.now.clock 0 (Stored c.inode_of-inode.result.0 c.inode_of-inode.result.1) (storing told g.B.Bank.view c.args.self.now history stands c.args.path.now c.args.owner.now c.args.group.now c.args.bytes.now rule) answered c.prepare_put.new.self.journal.place c.prepare_put.new.self.payload.items place form (omega (arith, full, size)),
       stays_here told g.B.Bank.view c.args.self.now _ (at history c.args.self.now.clock) stands (keeps_again _ _ u.files u.next_inode u.moment u.space) u.journal u.steps u.clock u.due (λ t. subst (λ (b : g.row.B.Denot). OnlyRead (g.B.Bank.view c.args.self.now.bank) (g.B.Bank.view b)) (sym u.bank) (nothing_read _ (g.met.B.Bank.sound _ (tells t)))),
@@ -66,8 +64,7 @@ returns-in_default-store-clause-turn g c = λ told tells history stands.
     let size : c.prepare_put.new.self.journal.size ≡ c.args.self.now.journal.size = ap (λ (j : JournalState). j.size) u.journal in
     let runs : c.runs_of.result.now ≡ taking told g.B.Bank.view c.args.self.now history stands c.args.path.now c.args.owner.now c.args.group.now c.args.bytes.now rule = c.runs_of.ensures ∙ ap put_runs is in
     let wrote = λ (t : IsTrue told). subst (λ (b : g.row.B.Denot). WroteInside 1 (in_blocks_of (taking told g.B.Bank.view c.args.self.now history stands c.args.path.now c.args.owner.now c.args.group.now c.args.bytes.now rule)) (g.B.Bank.view b) (g.B.Bank.view c.store.new.bank)) u.bank
-        (subst (λ (l : List Run). WroteInside 1 (in_blocks_of l) (g.B.Bank.view c.prepare_put.new.self.bank) (g.B.Bank.view c.store.new.bank)) runs (c.store.ensures.wrote (tells t))) in
-    (
+    (subst (λ (l : List Run). WroteInside 1 (in_blocks_of l) (g.B.Bank.view c.prepare_put.new.self.bank) (g.B.Bank.view c.store.new.bank)) runs (c.store.ensures.wrote (tells t))) in (
       at history c.args.self.now.clock,
       stays-turn c.args.self.now.journal.size told history (PutEvent c.args.path.now c.args.owner.now c.args.group.now c.args.bytes.now) c.args.self.now.clock _ (λ journal. absurd (omega (arith, journal, c.in_default-store.ensures.area))),
       put_stays told g.B.Bank.view c.args.self.now history stands c.args.path.now c.args.owner.now c.args.group.now c.args.bytes.now rule _ (keeps_again _ _ u.files u.next_inode u.moment u.space) u.journal u.steps u.clock u.due (λ t. g.met.B.Bank.sound _ (tells t)) wrote,
@@ -85,9 +82,8 @@ returns-in-Ok-commit-clause-turn g c = λ told tells history stands.
     let size : c.prepare_put.new.self.journal.size ≡ c.args.self.now.journal.size = ap (λ (j : JournalState). j.size) u.journal in
     let runs : c.runs_of.result.now ≡ taking told g.B.Bank.view c.args.self.now history stands c.args.path.now c.args.owner.now c.args.group.now c.args.bytes.now rule = c.runs_of.ensures ∙ ap put_runs is in
     let wrote = λ (t : IsTrue told). subst (λ (b : g.row.B.Denot). WroteInside 1 (in_blocks_of (taking told g.B.Bank.view c.args.self.now history stands c.args.path.now c.args.owner.now c.args.group.now c.args.bytes.now rule)) (g.B.Bank.view b) (g.B.Bank.view c.store.new.bank)) u.bank
-        (subst (λ (l : List Run). WroteInside 1 (in_blocks_of l) (g.B.Bank.view c.prepare_put.new.self.bank) (g.B.Bank.view c.store.new.bank)) runs (c.store.ensures.wrote (tells t))) in
-    let fits : c.prepare_put.new.self.journal.place + 6 + length c.prepare_put.new.self.payload.items ≤ c.prepare_put.new.self.journal.size = search rules in
-    (
+    (subst (λ (l : List Run). WroteInside 1 (in_blocks_of l) (g.B.Bank.view c.prepare_put.new.self.bank) (g.B.Bank.view c.store.new.bank)) runs (c.store.ensures.wrote (tells t))) in
+    let fits : c.prepare_put.new.self.journal.place + 6 + length c.prepare_put.new.self.payload.items ≤ c.prepare_put.new.self.journal.size = search rules in (
       at (history ++ (storing told g.B.Bank.view c.args.self.now history stands c.args.path.now c.args.owner.now c.args.group.now c.args.bytes.now rule) ∷ []) c.args.self.now.clock,
       made-turn c.args.self.now.journal.size told history (PutEvent c.args.path.now c.args.owner.now c.args.group.now c.args.bytes.now) c.args.self.now.clock 0 (Stored c.inode_of-inode.result.0 c.inode_of-inode.result.1) (storing told g.B.Bank.view c.args.self.now history stands c.args.path.now c.args.owner.now c.args.group.now c.args.bytes.now rule) answered c.prepare_put.new.self.journal.place c.prepare_put.new.self.payload.items place form (omega (arith, fits, size)) (Stored c.inode_of-inode.result.0 c.inode_of-inode.result.1) refl (is_reply told (Stored c.inode_of-inode.result.0 c.inode_of-inode.result.1) (Stored c.inode_of-inode.result.0 c.inode_of-inode.result.1) refl),
       put_moves told g.B.Bank.view c.args.self.now history stands c.args.path.now c.args.owner.now c.args.group.now c.args.bytes.now rule _ (keeps_again _ _ u.files u.next_inode u.moment u.space) u.journal u.steps u.clock u.due (λ t. g.met.B.Bank.sound _ (tells t)) wrote c.in-Ok.step is c.in-Ok.ensures.written (λ t. subst (λ (l : List Run). StandInAll (g.B.Bank.view c.store.new.bank) (extents_over l c.args.bytes.now)) c.runs_of.ensures (c.in-Ok-store.ensures.stored (tells t))) _
@@ -106,9 +102,8 @@ returns-in-Err-clause-turn g c = λ told tells history stands.
     let size : c.prepare_put.new.self.journal.size ≡ c.args.self.now.journal.size = ap (λ (j : JournalState). j.size) u.journal in
     let runs : c.runs_of.result.now ≡ taking told g.B.Bank.view c.args.self.now history stands c.args.path.now c.args.owner.now c.args.group.now c.args.bytes.now rule = c.runs_of.ensures ∙ ap put_runs is in
     let wrote = λ (t : IsTrue told). subst (λ (b : g.row.B.Denot). WroteInside 1 (in_blocks_of (taking told g.B.Bank.view c.args.self.now history stands c.args.path.now c.args.owner.now c.args.group.now c.args.bytes.now rule)) (g.B.Bank.view b) (g.B.Bank.view c.store.new.bank)) u.bank
-        (subst (λ (l : List Run). WroteInside 1 (in_blocks_of l) (g.B.Bank.view c.prepare_put.new.self.bank) (g.B.Bank.view c.store.new.bank)) runs (c.store.ensures.wrote (tells t))) in
-    let fits : c.prepare_put.new.self.journal.place + 6 + length c.prepare_put.new.self.payload.items ≤ c.prepare_put.new.self.journal.size = search rules in
-    (
+    (subst (λ (l : List Run). WroteInside 1 (in_blocks_of l) (g.B.Bank.view c.prepare_put.new.self.bank) (g.B.Bank.view c.store.new.bank)) runs (c.store.ensures.wrote (tells t))) in
+    let fits : c.prepare_put.new.self.journal.place + 6 + length c.prepare_put.new.self.payload.items ≤ c.prepare_put.new.self.journal.size = search rules in (
       owing history c.args.self.now.clock (storing told g.B.Bank.view c.args.self.now history stands c.args.path.now c.args.owner.now c.args.group.now c.args.bytes.now rule),
       owes-turn c.args.self.now.journal.size told history (PutEvent c.args.path.now c.args.owner.now c.args.group.now c.args.bytes.now) c.args.self.now.clock _ (Stored c.inode_of-inode.result.0 c.inode_of-inode.result.1) (storing told g.B.Bank.view c.args.self.now history stands c.args.path.now c.args.owner.now c.args.group.now c.args.bytes.now rule) answered c.prepare_put.new.self.journal.place c.prepare_put.new.self.payload.items place form (omega (arith, fits, size)) c.in-Err.ensures.area,
       put_owes told g.B.Bank.view c.args.self.now history stands c.args.path.now c.args.owner.now c.args.group.now c.args.bytes.now rule _ (keeps_again _ _ u.files u.next_inode u.moment u.space) u.journal u.steps u.clock u.due (λ t. g.met.B.Bank.sound _ (tells t)) wrote c.in-Ok.step is c.in-Ok.ensures.written (λ t. subst (λ (l : List Run). StandInAll (g.B.Bank.view c.store.new.bank) (extents_over l c.args.bytes.now)) c.runs_of.ensures (c.in-Ok-store.ensures.stored (tells t))) _

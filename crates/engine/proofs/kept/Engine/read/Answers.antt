@@ -46,8 +46,7 @@ returns-in_default-write_payload-clause-turn g c = λ told tells history stands.
 pub returns-then-not-has_room-clause-turn : goal.returns-then-not-has_room-clause-turn
 returns-then-not-has_room-clause-turn g c = λ told tells history stands.
     let found = sym c.find.ensures ∙ c.in-Some.is in
-    let is = c.inode_at-inode.ensures.inode (item told g.B.Bank.view c.args.self.now history stands c.args.path.now c.in-Some.index found) (item_at told g.B.Bank.view c.args.self.now history stands c.args.path.now c.in-Some.index found) in
-    (
+    let is = c.inode_at-inode.ensures.inode (item told g.B.Bank.view c.args.self.now history stands c.args.path.now c.in-Some.index found) (item_at told g.B.Bank.view c.args.self.now history stands c.args.path.now c.in-Some.index found) in (
       at history c.args.self.now.clock,
       full-turn c.args.self.now.journal.size told history (ReadEvent c.args.path.now c.args.upto) c.args.self.now.clock 0 (Bytes (take c.args.upto (file_bytes told g.B.Bank.view c.args.self.now history stands c.args.path.now c.in-Some.index found c.inode_at-inode.result is))) (bare_step c.args.self.now.clock (Accessed c.inode_at-inode.result))
           (access_answered told g.B.Bank.view c.args.self.now history stands c.args.path.now c.in-Some.index found c.inode_at-inode.result is c.args.upto)
@@ -63,10 +62,9 @@ returns-in-Ok-commit-clause-turn g c = λ told tells history stands.
     let here_is = listed_file told g.B.Bank.view c.args.self.now history stands c.args.path.now c.in-Some.index found c.inode_at-inode.result is c.as_slice.result.now c.index-as_slice-index.result c.as_slice.ensures c.index-as_slice-index.is in
     let there_is = listed_file told g.B.Bank.view c.args.self.now history stands c.args.path.now c.in-Some.index found c.inode_at-inode.result is c.as_slice-2.result.now c.index-as_slice-index-2.result c.as_slice-2.ensures c.index-as_slice-index-2.is in
     let runs_is : c.as_slice-runs.result.now ≡ (item told g.B.Bank.view c.args.self.now history stands c.args.path.now c.in-Some.index found).runs =
-        c.as_slice-runs.ensures ∙ ap (λ (f : FileRec). f.runs) (sym c.index-as_slice-index-2.is ∙ there_is) in
+    c.as_slice-runs.ensures ∙ ap (λ (f : FileRec). f.runs) (sym c.index-as_slice-index-2.is ∙ there_is) in
     let count_is : c.min-count.result ≡ min c.index-as_slice-index.result.length c.args.upto = c.min-count.ensures ∙ ap (λ (f : FileRec). min f.length c.args.upto) (sym c.index-as_slice-index.is) in
-    let long : length c.in-Ok.buffer.items ≡ c.min-count.result = omega (arith, c.in-Ok.ensures.len, c.in-Ok.buffer.ok) in
-    (
+    let long : length c.in-Ok.buffer.items ≡ c.min-count.result = omega (arith, c.in-Ok.ensures.len, c.in-Ok.buffer.ok) in (
       at (history ++ bare_step c.args.self.now.clock (Accessed c.inode_at-inode.result) ∷ []) c.args.self.now.clock,
       made-turn c.args.self.now.journal.size told history (ReadEvent c.args.path.now c.args.upto) c.args.self.now.clock 0 (Bytes (take c.args.upto (file_bytes told g.B.Bank.view c.args.self.now history stands c.args.path.now c.in-Some.index found c.inode_at-inode.result is))) (bare_step c.args.self.now.clock (Accessed c.inode_at-inode.result))
           (access_answered told g.B.Bank.view c.args.self.now history stands c.args.path.now c.in-Some.index found c.inode_at-inode.result is c.args.upto)
@@ -90,10 +88,9 @@ returns-in-Ok-commit-clause-turn g c = λ told tells history stands.
     )
 
 pub returns-in-Err-clause-turn : goal.returns-in-Err-clause-turn
-returns-in-Err-clause-turn g c = λ told tells history stands. 
+returns-in-Err-clause-turn g c = λ told tells history stands.
     let found = sym c.find.ensures ∙ c.in-Some.is in
-    let is = c.inode_at-inode.ensures.inode (item told g.B.Bank.view c.args.self.now history stands c.args.path.now c.in-Some.index found) (item_at told g.B.Bank.view c.args.self.now history stands c.args.path.now c.in-Some.index found) in
-    (
+    let is = c.inode_at-inode.ensures.inode (item told g.B.Bank.view c.args.self.now history stands c.args.path.now c.in-Some.index found) (item_at told g.B.Bank.view c.args.self.now history stands c.args.path.now c.in-Some.index found) in (
       owing history c.args.self.now.clock (bare_step c.args.self.now.clock (Accessed c.inode_at-inode.result)),
       owes-turn c.args.self.now.journal.size told history (ReadEvent c.args.path.now c.args.upto) c.args.self.now.clock _ (Bytes (take c.args.upto (file_bytes told g.B.Bank.view c.args.self.now history stands c.args.path.now c.in-Some.index found c.inode_at-inode.result is))) (bare_step c.args.self.now.clock (Accessed c.inode_at-inode.result))
           (access_answered told g.B.Bank.view c.args.self.now history stands c.args.path.now c.in-Some.index found c.inode_at-inode.result is c.args.upto)

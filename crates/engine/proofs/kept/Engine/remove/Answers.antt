@@ -38,8 +38,7 @@ returns-in_default-write_payload-clause-turn g c = λ told tells history stands.
 pub returns-then-not-has_room-clause-turn : goal.returns-then-not-has_room-clause-turn
 returns-then-not-has_room-clause-turn g c = λ told tells history stands.
     let found = sym c.find.ensures ∙ c.in-Some.is in
-    let is = c.inode_at-inode.ensures.inode (item told g.B.Bank.view c.args.self.now history stands c.args.path.now c.in-Some.index found) (item_at told g.B.Bank.view c.args.self.now history stands c.args.path.now c.in-Some.index found) in
-    (
+    let is = c.inode_at-inode.ensures.inode (item told g.B.Bank.view c.args.self.now history stands c.args.path.now c.in-Some.index found) (item_at told g.B.Bank.view c.args.self.now history stands c.args.path.now c.in-Some.index found) in (
       at history c.args.self.now.clock,
       full-turn c.args.self.now.journal.size told history (RemoveEvent c.args.path.now) c.args.self.now.clock 0 (Done c.inode_at-inode.result) (bare_step c.args.self.now.clock (Removed c.inode_at-inode.result))
           (removal_answered told g.B.Bank.view c.args.self.now history stands c.args.path.now c.in-Some.index found c.inode_at-inode.result is)
@@ -51,8 +50,7 @@ returns-then-not-has_room-clause-turn g c = λ told tells history stands.
 pub returns-in-Ok-commit-clause-turn : goal.returns-in-Ok-commit-clause-turn
 returns-in-Ok-commit-clause-turn g c = λ told tells history stands.
     let found = sym c.find.ensures ∙ c.in-Some.is in
-    let is = c.inode_at-inode.ensures.inode (item told g.B.Bank.view c.args.self.now history stands c.args.path.now c.in-Some.index found) (item_at told g.B.Bank.view c.args.self.now history stands c.args.path.now c.in-Some.index found) in
-    (
+    let is = c.inode_at-inode.ensures.inode (item told g.B.Bank.view c.args.self.now history stands c.args.path.now c.in-Some.index found) (item_at told g.B.Bank.view c.args.self.now history stands c.args.path.now c.in-Some.index found) in (
       at (history ++ bare_step c.args.self.now.clock (Removed c.inode_at-inode.result) ∷ []) c.args.self.now.clock,
       made-turn c.args.self.now.journal.size told history (RemoveEvent c.args.path.now) c.args.self.now.clock 0 (Done c.inode_at-inode.result) (bare_step c.args.self.now.clock (Removed c.inode_at-inode.result))
           (removal_answered told g.B.Bank.view c.args.self.now history stands c.args.path.now c.in-Some.index found c.inode_at-inode.result is)
@@ -67,10 +65,9 @@ returns-in-Ok-commit-clause-turn g c = λ told tells history stands.
     )
 
 pub returns-in-Err-clause-turn : goal.returns-in-Err-clause-turn
-returns-in-Err-clause-turn g c = λ told tells history stands. 
+returns-in-Err-clause-turn g c = λ told tells history stands.
     let found = sym c.find.ensures ∙ c.in-Some.is in
-    let is = c.inode_at-inode.ensures.inode (item told g.B.Bank.view c.args.self.now history stands c.args.path.now c.in-Some.index found) (item_at told g.B.Bank.view c.args.self.now history stands c.args.path.now c.in-Some.index found) in
-    (
+    let is = c.inode_at-inode.ensures.inode (item told g.B.Bank.view c.args.self.now history stands c.args.path.now c.in-Some.index found) (item_at told g.B.Bank.view c.args.self.now history stands c.args.path.now c.in-Some.index found) in (
       owing history c.args.self.now.clock (bare_step c.args.self.now.clock (Removed c.inode_at-inode.result)),
       owes-turn c.args.self.now.journal.size told history (RemoveEvent c.args.path.now) c.args.self.now.clock _ (Done c.inode_at-inode.result) (bare_step c.args.self.now.clock (Removed c.inode_at-inode.result))
           (removal_answered told g.B.Bank.view c.args.self.now history stands c.args.path.now c.in-Some.index found c.inode_at-inode.result is)
