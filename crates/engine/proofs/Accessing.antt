@@ -1,5 +1,5 @@
 -- A read of a file that is there.
-use Rattle.std.proofs.Common.{◌≡◌, ℕ, ◌*◌, ◌≤◌, List, [], length, take, get_or, min, refl, sym, ◌∙◌, ap, subst, arith, Bool, Option, Some}
+use Rattle.std.proofs.Common.{◌≡◌, ℕ, ◌*◌, ◌≤◌, List, length, take, get_or, min, refl, sym, ◌∙◌, ap, subst, arith, Bool, Some}
 use Rattle.std.specs.Prelude.{position, IsTrue}
 use Rattle.std.specs.Str.{bytes_eq}
 use Rattle.std.proofs.lemmas.List.{take_min}
@@ -15,7 +15,7 @@ use Rattle.site_history.specs.Site.{bytes_of}
 use Rattle.site_history.specs.Steps.{HistoryStep, IsLegal}
 use Rattle.site_history.specs.Histories.{after}
 use Rattle.site_history.specs.Worlds.{at}
-use Rattle.site_history.specs.Answers.{Answer, bare_step, answer_to}
+use Rattle.site_history.specs.Answers.{bare_step, answer_to}
 use Rattle.site_history.specs.Images.{extents_over, AllStand}
 use Rattle.site_history.proofs.Accesses.{accessed_legal, read_length}
 use Rattle.site_history.proofs.FileReads.{pinned_file}
@@ -24,7 +24,7 @@ use Rattle.site_history.proofs.Turns.{read-found}
 use Rattle.engine.specs.declared.kept.Engine.{Engine}
 use Rattle.engine.specs.StandsFor.{StandsFor}
 use Rattle.engine.specs.Ready.{IsReady}
-use Rattle.engine.proofs.Found.{keeps_it, item, item_at, item_is, item_within, item_found, item_of}
+use Rattle.engine.proofs.Found.{keeps_it, item, item_is, item_within, item_found, item_of}
 
 module _ {B P : Type 0} (told : Bool) (view : B → View) (engine : Engine B P) (history : List HistoryStep) (stands : StandsFor told view engine (at history engine.clock))
     (path : List ℕ) (index : ℕ) (found : position (λ (file : FileRec). bytes_eq file.path path) engine.site.files.list ≡ Some index)

@@ -1,16 +1,14 @@
 -- A step's record is appended: what the engine stands for then.
-use Rattle.std.proofs.Common.{◌≡◌, ◌⊎◌, inl, inr, ⊎_elim, ℕ, ◌+◌, ◌≤◌, List, [], ◌∷◌, ◌++◌, length, refl, sym, ◌∙◌, ap, subst, arith, Bool, true, false, Option, Some, None}
+use Rattle.std.proofs.Common.{◌≡◌, ◌⊎◌, inl, inr, ⊎_elim, ℕ, ◌+◌, List, [], ◌∷◌, ◌++◌, length, refl, sym, ◌∙◌, ap, subst, arith, Bool, true, false, Some, None}
 use Rattle.std.specs.Prelude.{IsTrue}
 use Rattle.bank.specs.Content.{Image}
 use Rattle.bank.specs.View.{View, IsImage, IsSound, LeavesOnly, Wrote}
 use Rattle.bank.proofs.Moments.{weakened}
 use Rattle.journal.specs.Records.{AllHold, IsBeforeOrAfter, end_of}
-use Rattle.journal.specs.State.{JournalState}
-use Rattle.records.specs.Written.{written}
-use Rattle.site_history.specs.Site.{Site, Fields}
+use Rattle.site_history.specs.Site.{Site}
 use Rattle.site_history.specs.Steps.{HistoryStep, fields_after, effect}
-use Rattle.site_history.specs.Histories.{after, IsHistory, journal_length}
-use Rattle.site_history.specs.Worlds.{World, at, site_of}
+use Rattle.site_history.specs.Histories.{after, IsHistory}
+use Rattle.site_history.specs.Worlds.{at}
 use Rattle.site_history.specs.Images.{extents, written_forms, Reads, ReadsAs}
 use Rattle.site_history.specs.Pinned.{StandInAll, IsPinned}
 use Rattle.site_history.proofs.HistoryLaws.{after-push, history-push, journal_length-push, length-push}
@@ -19,7 +17,6 @@ use Rattle.site_history.proofs.ImageLaws.{image_reads}
 use Rattle.site_history.proofs.Reopenings.{pinned_by_world}
 use Rattle.site_history.proofs.Commits.{step_ready, commit_moments, commit_pinned, commit_faulted}
 use Rattle.site_history.proofs.Turns.{moment-push, owing-in_time}
-use Rattle.engine.specs.declared.kept.SiteFiles.{SiteFiles}
 use Rattle.engine.specs.declared.kept.Engine.{Engine}
 use Rattle.engine.specs.StandsFor.{Keeps, IsInStep, StandsFor, Moves}
 use Rattle.engine.specs.Ready.{IsReady, owing}

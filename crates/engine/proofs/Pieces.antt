@@ -1,13 +1,12 @@
 -- The bytes of a file on their way into the runs of the cache and out of them.
-use Rattle.std.proofs.Common.{◌≡◌, inl, ℕ, ◌+◌, ◌-◌, ◌*◌, ◌<◌, ◌≤◌, min, List, [], ◌∷◌, ◌++◌, length, take, drop, get_or, refl, sym, ◌∙◌, ap, subst, arith, Bool, true, length-take}
+use Rattle.std.proofs.Common.{◌≡◌, inl, ℕ, ◌+◌, ◌-◌, ◌*◌, ◌<◌, ◌≤◌, min, List, [], ◌∷◌, ◌++◌, length, take, get_or, refl, sym, ◌∙◌, ap, arith}
 use Rattle.bank.specs.Content.{Image, Stands}
 use Rattle.bank.specs.View.{View, IsSound, Unchanged, Touches, OnlyRead}
 use Rattle.bank.proofs.Spans.{Stands-same}
 use Rattle.bank.specs.Inside.{WroteInside}
 use Rattle.bank.proofs.Inside.{inside_nothing, inside_then}
 use Rattle.records.specs.declared.file.Run.{Run}
-use Rattle.cache_space.specs.Blocks.{is_in_run, is_in_runs}
-use Rattle.cache_space.specs.Space.{AreMaximal, blocks_in}
+use Rattle.cache_space.specs.Space.{blocks_in}
 use Rattle.site_history.specs.Images.{extents_over, AllStand}
 use Rattle.site_history.specs.Pinned.{in_blocks_of}
 use Rattle.site_history.proofs.Storing.{wrote_run, listed_run}

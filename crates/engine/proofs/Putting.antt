@@ -1,5 +1,5 @@
 -- A put that no rule refuses.
-use Rattle.std.proofs.Common.{◌≡◌, ◌⊎◌, inl, ◌≤◌, ℕ, List, [], ◌∷◌, ◌++◌, length, refl, sym, ◌∙◌, ap, subst, arith, Bool, Option, Some, None}
+use Rattle.std.proofs.Common.{◌≡◌, ◌⊎◌, inl, ◌≤◌, ℕ, List, [], ◌∷◌, ◌++◌, length, refl, sym, ◌∙◌, ap, subst, arith, Bool, Some, None}
 use Rattle.std.specs.Prelude.{IsTrue, is_none}
 use Rattle.bank.specs.Content.{Image}
 use Rattle.bank.specs.View.{View, IsImage, IsSound, LeavesOnly}
@@ -16,10 +16,10 @@ use Rattle.site_history.specs.Steps.{HistoryStep, IsLegal, inode_for}
 use Rattle.site_history.specs.Histories.{after}
 use Rattle.site_history.specs.Worlds.{World, at}
 use Rattle.site_history.specs.Answers.{Answer, put_rule, put_made, put_step, answer_to}
-use Rattle.site_history.specs.Images.{extents, extents_over, Reads, ReadsAs}
-use Rattle.site_history.specs.Pinned.{StandInAll, IsPinned, in_blocks_of, put_extents}
+use Rattle.site_history.specs.Images.{extents_over, Reads, ReadsAs}
+use Rattle.site_history.specs.Pinned.{StandInAll, IsPinned, in_blocks_of}
 use Rattle.site_history.proofs.SiteLaws.{orderly}
-use Rattle.site_history.proofs.Puts.{IsAdmitted, admitted, put_legal, put_has_bytes}
+use Rattle.site_history.proofs.Puts.{admitted, put_legal, put_has_bytes}
 use Rattle.site_history.proofs.Turns.{put-stored}
 use Rattle.site_history.proofs.ImageLaws.{image_reads}
 use Rattle.site_history.proofs.Extents.{site_clear}

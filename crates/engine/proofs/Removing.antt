@@ -1,5 +1,5 @@
 -- A removal of a file that is there.
-use Rattle.std.proofs.Common.{◌≡◌, ℕ, List, length, refl, sym, subst, Bool, Option, Some}
+use Rattle.std.proofs.Common.{◌≡◌, ℕ, List, length, refl, sym, subst, Bool, Some}
 use Rattle.std.specs.Prelude.{position}
 use Rattle.std.specs.Str.{bytes_eq}
 use Rattle.bank.specs.View.{View}
@@ -11,13 +11,13 @@ use Rattle.records.specs.Written.{written}
 use Rattle.site_history.specs.Steps.{HistoryStep, IsLegal}
 use Rattle.site_history.specs.Histories.{after}
 use Rattle.site_history.specs.Worlds.{at}
-use Rattle.site_history.specs.Answers.{Answer, bare_step, answer_to}
+use Rattle.site_history.specs.Answers.{bare_step, answer_to}
 use Rattle.site_history.proofs.Accesses.{removed_legal}
 use Rattle.site_history.proofs.Turns.{remove-found}
 use Rattle.engine.specs.declared.kept.Engine.{Engine}
 use Rattle.engine.specs.StandsFor.{StandsFor}
 use Rattle.engine.specs.Ready.{IsReady}
-use Rattle.engine.proofs.Found.{item, item_at, item_found, item_of}
+use Rattle.engine.proofs.Found.{item, item_found, item_of}
 
 module _ {B P : Type 0} (told : Bool) (view : B → View) (engine : Engine B P) (history : List HistoryStep) (stands : StandsFor told view engine (at history engine.clock))
     (path : List ℕ) (index : ℕ) (found : position (λ (file : FileRec). bytes_eq file.path path) engine.site.files.list ≡ Some index)

@@ -1,5 +1,5 @@
 -- An event, where a reopening is due and where none is.
-use Rattle.std.proofs.Common.{◌≡◌, ◌⊎◌, inl, inr, ⊎_elim, ℕ, ◌<◌, ◌≤◌, ◌^◌, max, min, List, [], ◌∷◌, ◌++◌, refl, sym, ◌∙◌, ap, subst, arith, Bool, true, false, Option, Some, None}
+use Rattle.std.proofs.Common.{◌≡◌, ◌⊎◌, inl, inr, ⊎_elim, ℕ, ◌<◌, ◌≤◌, ◌^◌, List, refl, sym, ◌∙◌, ap, subst, arith, Bool, true, false, Option, Some, None}
 use Rattle.std.specs.Prelude.{IsTrue}
 use Rattle.bank.specs.Content.{Image}
 use Rattle.bank.specs.View.{View, IsImage, LeavesOnly}
@@ -11,11 +11,10 @@ use Rattle.records.specs.declared.reply.Reply.{Reply}
 use Rattle.site_history.specs.Site.{Fields}
 use Rattle.site_history.specs.Steps.{HistoryStep}
 use Rattle.site_history.specs.Histories.{after}
-use Rattle.site_history.specs.Worlds.{World, at, site_of, moment_of, Turn, IsReopened, clock_from, RefusesReopening, EventTurnBy, EventTurn}
+use Rattle.site_history.specs.Worlds.{World, at, moment_of, Turn, IsReopened, clock_from, RefusesReopening, EventTurnBy, EventTurn}
 use Rattle.site_history.specs.Images.{Reads, ReadsAs}
-use Rattle.engine.specs.declared.kept.SiteFiles.{SiteFiles}
 use Rattle.engine.specs.declared.kept.Engine.{Engine}
-use Rattle.engine.specs.StandsFor.{Keeps, IsInStep, StandsFor, Moves, IsRecovered, StaysFor}
+use Rattle.engine.specs.StandsFor.{Keeps, StandsFor, Moves, IsRecovered, StaysFor}
 
 -- Time goes on: the engine stands for the same history at a later moment.
 pub stands_later : {B P : Type 0} (told : Bool) (view : B → View) (old new : Engine B P) (history : List HistoryStep) (clock : ℕ) → StandsFor told view old (at history clock)

@@ -1,15 +1,13 @@
 -- How an engine that stands for a history with nothing open goes on while an event is served.
-use Rattle.std.proofs.Common.{◌≡◌, ◌⊎◌, inl, inr, ⊎_elim, ℕ, ◌≤◌, List, [], ◌∷◌, ◌++◌, refl, sym, ◌∙◌, ap, subst, arith, Bool, true, false, Option, Some, None}
+use Rattle.std.proofs.Common.{◌≡◌, ◌⊎◌, inl, ℕ, sym, ◌∙◌, ap, subst, Bool}
 use Rattle.std.specs.Prelude.{IsTrue}
 use Rattle.bank.specs.Content.{Image}
-use Rattle.bank.specs.View.{View, IsImage, IsSound, OnlyRead, LeavesOnly}
+use Rattle.bank.specs.View.{View, IsImage, OnlyRead, LeavesOnly}
 use Rattle.bank.proofs.Moments.{weakened, joined}
-use Rattle.bank.proofs.Readings.{nothing_read}
 use Rattle.journal.specs.State.{JournalState}
 use Rattle.site_history.specs.Site.{Fields}
-use Rattle.site_history.specs.Steps.{HistoryStep}
 use Rattle.site_history.specs.Histories.{after}
-use Rattle.site_history.specs.Worlds.{World, at}
+use Rattle.site_history.specs.Worlds.{World}
 use Rattle.site_history.specs.Images.{ReadsAs}
 use Rattle.site_history.proofs.Reopenings.{images_after_reading, moments_of_reading}
 use Rattle.engine.specs.declared.kept.SiteFiles.{SiteFiles}

@@ -1,4 +1,4 @@
-use Rattle.std.proofs.Common.{◌≤◌, ◌≡◌, ◌*◌, min, ℕ, List, IsTrue, length, drop, take}
+use Rattle.std.proofs.Common.{◌≤◌, ◌≡◌, ◌*◌, min, ℕ, List, IsTrue, length, take}
 use Rattle.bank.specs.View.{OnlyRead}
 use Rattle.cache_space.specs.Space.{blocks_in}
 use Rattle.site_history.specs.Images.{extents_over, AllStand}

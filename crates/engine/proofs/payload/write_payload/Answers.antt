@@ -1,4 +1,4 @@
-use Rattle.std.proofs.Common.{◌≡◌, List, ℕ, sym, subst, ◌∙◌, ap, ◌++◌}
+use Rattle.std.proofs.Common.{List, ℕ, sym, subst, ◌∙◌, ap, ◌++◌}
 use Rattle.journal.specs.Records.{IsPayload}
 use Rattle.journal.proofs.RecordLaws.{ok_then}
 use Rattle.records.specs.Written.{written}

@@ -1,4 +1,4 @@
-use Rattle.std.proofs.Common.{ℕ, List, length, ◌≡◌, ◌++◌, [], sym, subst, arith}
+use Rattle.std.proofs.Common.{List, length, sym, subst, arith}
 use Rattle.cache_space.specs.Space.{AreMaximal}
 use Rattle.records.specs.declared.file.Run.{Run}
 use Rattle.cache_space.proofs.LowestRuns.{lowest_runs-maximal}

@@ -1,4 +1,4 @@
-use Rattle.std.proofs.Common.{◌≡◌, ℕ, List, length, sym, ◌∙◌, ap, subst}
+use Rattle.std.proofs.Common.{ℕ, List, subst}
 use Rattle.journal.specs.Records.{HoldsRecords, IsBadAt}
 use Rattle.engine.specs.Replays.{Replays, TellsPayloads}
 use Rattle.engine.proofs.Reading.{replayed, tells_journal, bad_record}

@@ -1,4 +1,4 @@
-use Rattle.std.proofs.Common.{◌≡◌, ℕ, ◌+◌, min, ◌<◌, ◌≤◌, List, length, refl, sym, ◌∙◌, ap, arith, rules}
+use Rattle.std.proofs.Common.{ℕ, ◌+◌, min, refl, ◌∙◌, ap, arith, rules}
 use Rattle.site_history.specs.Histories.{after}
 use Rattle.engine.proofs.Replaying.{replays_none, good_payload, bad_payload, read_none, read_some, few_steps, next_place}
 use Rattle.engine.proofs.replay.replay.Goals as goal

@@ -1,4 +1,3 @@
-use Rattle.std.proofs.Common.{◌≡◌, refl, sym}
 use Rattle.engine.proofs.Serving.{event_at_rest, event_reopened, event_refused}
 use Rattle.engine.proofs.kept.Engine.event.Goals as goal
 

@@ -1,4 +1,4 @@
-use Rattle.std.proofs.Common.{◌≡◌, ◌++◌, ◌∷◌, [], ℕ, List, min, length, take, refl, sym, ◌∙◌, ap, subst, arith, rules}
+use Rattle.std.proofs.Common.{◌≡◌, ◌++◌, ◌∷◌, [], ℕ, min, length, take, refl, sym, ◌∙◌, ap, arith, rules}
 use Rattle.bank.proofs.Readings.{nothing_read}
 use Rattle.records.specs.declared.event.Event.TheVariants.{Read as ReadEvent}
 use Rattle.records.specs.declared.file.FileRec.{FileRec}
@@ -9,7 +9,7 @@ use Rattle.site_history.specs.Histories.{after}
 use Rattle.site_history.specs.Worlds.{at}
 use Rattle.site_history.specs.Answers.{bare_step}
 use Rattle.site_history.proofs.StepRanges.{accessed_in_range}
-use Rattle.site_history.proofs.Turns.{read-missing, refused-turn, memory-turn, full-turn, made-turn, owes-turn, stays-turn, owing, is_reply-bytes}
+use Rattle.site_history.proofs.Turns.{read-missing, refused-turn, full-turn, made-turn, owes-turn, stays-turn, owing, is_reply-bytes}
 use Rattle.engine.proofs.Found.{not_found, item, item_at, place_it}
 use Rattle.engine.proofs.Accessing.{file_bytes, access_answered, access_ready, listed_file, read_as_many, read_within, read_enough, read_stands, read_same}
 use Rattle.engine.proofs.Turning.{keeps_again, stays_here, stands_read, moments_since, moves_behind}

@@ -1,4 +1,4 @@
-use Rattle.std.proofs.Common.{ℕ, refl, sym, ◌∙◌, subst}
+use Rattle.std.proofs.Common.{ℕ, refl, ◌∙◌, subst}
 use Rattle.journal.specs.Records.{HoldsRecords}
 use Rattle.site_history.specs.Images.{written_forms}
 use Rattle.site_history.specs.Journals.{IsBadJournal}

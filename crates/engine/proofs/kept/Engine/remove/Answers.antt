@@ -8,7 +8,7 @@ use Rattle.site_history.specs.Histories.{after}
 use Rattle.site_history.specs.Worlds.{at}
 use Rattle.site_history.specs.Answers.{bare_step}
 use Rattle.site_history.proofs.StepRanges.{removed_in_range}
-use Rattle.site_history.proofs.Turns.{remove-missing, refused-turn, memory-turn, full-turn, made-turn, owes-turn, owing, is_reply}
+use Rattle.site_history.proofs.Turns.{remove-missing, refused-turn, full-turn, made-turn, owes-turn, owing, is_reply}
 use Rattle.engine.proofs.Found.{not_found, item, item_at, place_it}
 use Rattle.engine.proofs.Removing.{removal_answered, removal_ready}
 use Rattle.engine.proofs.Turning.{stays_here, stands_read, moments_since, moves_behind}

@@ -1,4 +1,4 @@
-use Rattle.std.proofs.Common.{◌≡◌, ℕ, List, ◌∙◌, ap, refl, sym, subst}
+use Rattle.std.proofs.Common.{ℕ, List, ◌∙◌, ap, refl, sym, subst}
 use Rattle.bank.proofs.Readings.{nothing_read}
 use Rattle.records.specs.declared.event.Event.{Event}
 use Rattle.records.specs.declared.event.Event.TheVariants.{Read as ReadEvent, Remove as RemoveEvent}

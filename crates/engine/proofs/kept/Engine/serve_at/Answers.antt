@@ -1,7 +1,5 @@
-use Rattle.std.proofs.Common.{◌≡◌, ◌∙◌, ap, arith, max, min, ℕ, refl, subst, sym, ◌^◌, ◌-◌}
-use Rattle.site_history.specs.Worlds.{World, at, moment_of, Turn}
-use Rattle.engine.specs.StandsFor.{Moves, StandsFor}
-use Rattle.engine.proofs.Turning.{keeps_again}
+use Rattle.std.proofs.Common.{◌≡◌, arith, ℕ, refl, subst}
+use Rattle.site_history.specs.Worlds.{moment_of, Turn}
 use Rattle.engine.proofs.Serving.{stands_later, moves_from}
 use Rattle.engine.proofs.kept.Engine.serve_at.Goals as goal
 

@@ -1,4 +1,4 @@
-use Rattle.std.proofs.Common.{◌≡◌, sym, ◌∙◌}
+use Rattle.std.proofs.Common.{sym, ◌∙◌}
 use Rattle.engine.proofs.Legality.{takes_there, takes_next, takes_other}
 use Rattle.engine.proofs.kept.SiteFiles.takes_inode.Goals as goal
 
