@@ -16,6 +16,8 @@ mod reopen;
 mod replay;
 mod rule;
 mod stored;
+#[cfg(test)]
+mod tests;
 
 pub use engine::{Shut, ShutCause};
 pub use files::Files;
