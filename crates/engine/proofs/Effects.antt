@@ -1,6 +1,6 @@
 -- What the code's changes of the files and of the space make, in the words of steps.
-use Rattle.std.proofs.Common.{◌≡◌, ℕ, ◌+◌, ◌<◌, ◌≤◌, ◌^◌, min, List, [], ◌∷◌, ◌++◌, length, get_or, set, map, sym, ◌∙◌, ap, subst, arith, Bool, true, false, cond, Option, Some, None, eqb-true}
-use Rattle.std.specs.Prelude.{◌==◌, position, slice_get, remove, is_some, IsTrue}
+use Rattle.std.proofs.Common.{◌≡◌, ℕ, ◌+◌, ◌<◌, ◌≤◌, ◌^◌, min, List, [], ◌∷◌, ◌++◌, length, get_or, set, map, sym, ◌∙◌, ap, subst, arith, Bool, true, false, Option, Some, None, eqb-true}
+use Rattle.std.specs.Prelude.{◌==◌, position, slice_get, remove, is_some}
 use Rattle.std.specs.List.{list_any}
 use Rattle.std.specs.Option.{option_map_or}
 use Rattle.std.specs.Str.{bytes_eq}
@@ -8,9 +8,9 @@ use Rattle.records.specs.declared.file.FileRec.{FileRec}
 use Rattle.records.specs.declared.file.Run.{Run}
 use Rattle.cache_space.specs.Space.{taken_by, AreApart}
 use Rattle.site_history.specs.Site.{Fields, Site, file_at, held_runs, with_file}
-use Rattle.site_history.specs.Steps.{PutOf, stored_file, accessed_by, without_file, IsThere, IsLegalPut, inode_for, next_after, put_effect, accessed_effect, removed_effect}
+use Rattle.site_history.specs.Steps.{PutOf, stored_file, accessed_by, without_file, IsThere, IsLegalPut, next_after, put_effect}
 use Rattle.site_history.proofs.FileLaws.{with_file-new, with_file-set, accessed-set, without_file-remove, all_at, AreBelow}
-use Rattle.site_history.proofs.HeldRuns.{held-push, held-accessed, replaced-taken, replaced-apart, removed-taken, removed-apart}
+use Rattle.site_history.proofs.HeldRuns.{held-push, replaced-taken, replaced-apart, removed-taken, removed-apart}
 use Rattle.site_history.proofs.SiteLaws.{IsOrderly, IsKept}
 use Rattle.engine.specs.declared.kept.SiteFiles.{SiteFiles}
 use Rattle.engine.specs.StandsFor.{Keeps}

@@ -1,6 +1,6 @@
 -- What the code's tests of a step say of it.
-use Rattle.std.proofs.Common.{arith, get_or, zero-add, eqb-true, ◌≡◌, ℕ, ◌<◌, ◌≤◌, List, [], ◌∷◌, ◌++◌, length, sym, ◌∙◌, ap, subst, Bool, true, false, Option, Some, None}
-use Rattle.std.specs.Prelude.{◌↔◌, MatchOption, IsTrue, find, ◌==◌, position}
+use Rattle.std.proofs.Common.{arith, get_or, zero-add, eqb-true, ◌≡◌, ℕ, ◌<◌, ◌≤◌, List, ◌∷◌, ◌++◌, length, sym, ◌∙◌, ap, Bool, Option, Some, None}
+use Rattle.std.specs.Prelude.{◌↔◌, MatchOption, IsTrue, ◌==◌, position}
 use Rattle.std.specs.Option.{option_map_or}
 use Rattle.std.specs.Str.{bytes_eq}
 use Rattle.std.proofs.lemmas.Bool.Decides.{nat_tests}

@@ -4,3 +4,12 @@ pub mod Effects
 pub mod Replaying
 pub mod Reading
 pub mod Standing
+pub mod Pieces
+pub mod Committing
+pub mod Found
+pub mod Turning
+pub mod Removing
+pub mod Accessing
+pub mod Asking
+pub mod Putting
+pub mod Serving

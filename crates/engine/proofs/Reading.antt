@@ -1,7 +1,7 @@
 -- What was read of a journal: a history, or where it is bad.
-use Rattle.std.proofs.Common.{◌≡◌, ⊎_elim, inl, inr, ℕ, ◌<◌, ◌≤◌, ◌^◌, List, [], ◌∷◌, ◌++◌, length, sym, ◌∙◌, ap, subst, arith}
+use Rattle.std.proofs.Common.{◌≡◌, inl, inr, ℕ, ◌≤◌, List, ◌∷◌, ◌++◌, length, sym, ◌∙◌, ap, subst, arith}
 use Rattle.bank.specs.Content.{Content}
-use Rattle.journal.specs.Records.{AreRecords, HoldsRecords, IsBadAt, end_of, IsRecord}
+use Rattle.journal.specs.Records.{AreRecords, IsBadAt, end_of, IsRecord}
 use Rattle.journal.specs.Refusals.{IfBadRecord}
 use Rattle.journal.specs.declared.refusal.JournalRefusal.{JournalRefusal}
 use Rattle.journal.specs.declared.refusal.JournalRefusal.TheVariants.{BadRecord}
@@ -9,7 +9,7 @@ use Rattle.journal.specs.State.{JournalState}
 use Rattle.journal.proofs.RecordLaws.{end-within}
 use Rattle.journal.proofs.Held.{records-front, records-back}
 use Rattle.site_history.specs.Images.{written_forms}
-use Rattle.site_history.specs.Journals.{HasBadStep, IsBadJournal}
+use Rattle.site_history.specs.Journals.{IsBadJournal}
 use Rattle.site_history.proofs.JournalLaws.{end_of-history}
 use Rattle.engine.specs.declared.kept.SiteFiles.{SiteFiles}
 use Rattle.engine.specs.declared.engine.ShutCause.{ShutCause}

@@ -1,5 +1,5 @@
 -- The steps of a journal made again, one payload after another.
-use Rattle.std.proofs.Common.{◌≡◌, ℕ, suc, ◌+◌, ◌<◌, ◌≤◌, ◌^◌, ◌-◌, min, List, [], ◌∷◌, ◌++◌, length, replicate, take, drop, get_or, map, refl, sym, ◌∙◌, ap, subst, arith, Option, Some, None, drop-cons, length-take}
+use Rattle.std.proofs.Common.{◌≡◌, ℕ, suc, ◌+◌, ◌<◌, ◌≤◌, ◌^◌, min, List, [], ◌∷◌, ◌++◌, length, replicate, take, drop, get_or, refl, sym, ◌∙◌, ap, subst, arith, Option, Some, None, drop-cons, length-take}
 use Rattle.std.proofs.lemmas.List.{length-map, length-replicate, take-append-drop, take_more}
 use Rattle.journal.specs.Records.{end_of}
 use Rattle.journal.proofs.RecordLaws.{end-above, end-push}
@@ -9,10 +9,10 @@ use Rattle.records.specs.declared.step.StepKind.{StepKind}
 use Rattle.records.specs.declared.step.StepKind.TheVariants.{Put}
 use Rattle.records.specs.Written.{written}
 use Rattle.site_history.specs.Site.{Site, Fields, first_fields}
-use Rattle.site_history.specs.Steps.{HistoryStep, fields_after, effect, IsLegal, HasBytes}
-use Rattle.site_history.specs.Histories.{after, IsHistory}
+use Rattle.site_history.specs.Steps.{HistoryStep, fields_after, IsLegal, HasBytes}
+use Rattle.site_history.specs.Histories.{after}
 use Rattle.site_history.specs.Images.{written_forms}
-use Rattle.site_history.proofs.HistoryLaws.{after-push, history-push, length-push}
+use Rattle.site_history.proofs.HistoryLaws.{after-push, history-push}
 use Rattle.site_history.proofs.Commits.{written_forms-push}
 use Rattle.engine.specs.declared.kept.SiteFiles.{SiteFiles}
 use Rattle.engine.specs.StandsFor.{Keeps}

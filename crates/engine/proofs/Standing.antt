@@ -1,14 +1,14 @@
 -- What an engine stands for once its journal was read.
-use Rattle.std.proofs.Common.{◌≡◌, ◌⊎◌, inl, inr, ⊎_elim, ℕ, ◌+◌, ◌<◌, ◌≤◌, ◌^◌, max, List, [], ◌∷◌, ◌++◌, length, refl, sym, ◌∙◌, ap, subst, arith, Bool, true, false, Option, Some, None}
+use Rattle.std.proofs.Common.{◌≡◌, inl, inr, ⊎_elim, ℕ, ◌<◌, ◌≤◌, ◌^◌, max, List, [], ◌∷◌, ◌++◌, refl, sym, ◌∙◌, ap, subst, arith, Bool, true, false, Some, None}
 use Rattle.std.specs.Prelude.{IsTrue}
-use Rattle.bank.specs.Content.{Content, Image, Same}
-use Rattle.bank.specs.View.{View, IsImage, IsSound, OnlyRead, OnlyContent, LeavesOnly}
+use Rattle.bank.specs.Content.{Image}
+use Rattle.bank.specs.View.{View, IsImage, IsSound, OnlyRead, OnlyContent}
 use Rattle.journal.specs.Records.{HoldsRecords}
 use Rattle.journal.specs.State.{JournalState}
-use Rattle.site_history.specs.Site.{Site, Fields}
+use Rattle.site_history.specs.Site.{Fields}
 use Rattle.site_history.specs.Steps.{HistoryStep}
-use Rattle.site_history.specs.Histories.{after, IsHistory, journal_length}
-use Rattle.site_history.specs.Worlds.{World, site_of, at, new_world, IsReopened, clock_from, IsFound}
+use Rattle.site_history.specs.Histories.{after, IsHistory}
+use Rattle.site_history.specs.Worlds.{World, site_of, at, new_world, IsReopened, IsFound}
 use Rattle.site_history.specs.Images.{written_forms, Reads, ReadsAs, IsSettled}
 use Rattle.site_history.specs.Journals.{HoldsHistory, IsBadJournal}
 use Rattle.site_history.proofs.HistoryLaws.{history-front}

@@ -5,3 +5,4 @@ pub mod Replays
 pub mod StandsFor
 pub mod Journals
 pub mod Inside
+pub mod Ready

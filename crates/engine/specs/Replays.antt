@@ -1,5 +1,5 @@
 -- What the payloads of a journal say of a site.
-use Rattle.std.specs.Prelude.{◌≡◌, ℕ, ◌^◌, ◌<◌, List, [], ◌∷◌, ◌++◌, length, MatchOption, Option}
+use Rattle.std.specs.Prelude.{◌≡◌, ℕ, ◌^◌, ◌<◌, List, ◌∷◌, ◌++◌, length, MatchOption, Option}
 use Rattle.journal.specs.Records.{end_of}
 use Rattle.journal.specs.State.{JournalState}
 use Rattle.records.specs.declared.step.Step.{Step}

@@ -1,5 +1,5 @@
 -- Room for a further file.
-use Rattle.std.specs.Prelude.{◌≡◌, ℕ, ◌<◌, None, List}
+use Rattle.std.specs.Prelude.{◌≡◌, ◌<◌, None}
 use Rattle.records.specs.declared.step.Step.{Step}
 use Rattle.records.specs.declared.step.StepKind.{StepKind}
 use Rattle.records.specs.declared.step.StepKind.TheVariants.{Put}

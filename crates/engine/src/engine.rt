@@ -2,9 +2,10 @@
 
 ghost use Rattle.std.specs.Prelude.{◌≡◌, ◌≢◌, ◌≤◌, ◌<◌, ◌^◌, ℕ, [], false, true, length, IfOk, IfErr, MatchResult, IsTrue, OnOk, OnErr, Bool, List};
 ghost use Rattle.site_text.specs.Causes.{Rose};
+ghost use Rattle.bank.specs.Content.{Content};
 ghost use Rattle.bank.specs.View.{OnlyRead};
 ghost use Rattle.site_history.specs.Steps.{HistoryStep};
-ghost use Rattle.site_history.specs.Worlds.{World, EventTurn, new_world, IsFound, RefusesReopening};
+ghost use Rattle.site_history.specs.Worlds.{World, Turn, EventTurn, at, moment_of, new_world, IsFound, RefusesReopening};
 ghost use Rattle.site_history.specs.Images.{IsSettled};
 ghost use Rattle.site_history.specs.Journals.{HoldsHistory};
 ghost use Rattle.engine.specs.StandsFor.{StandsFor, Moves, IsRecovered, StaysFor};
@@ -13,7 +14,7 @@ ghost use Rattle.engine.specs.Journals.{TellsJournal, RepliesJournal};
 use crate::kept::Engine;
 use crate::reopen::read_site;
 use bank::Bank;
-use records::{Event, Reply};
+use records::{Event, LineRefusal, Reply};
 use std::alloc::Global;
 
 /// The last moment, in seconds.
@@ -54,11 +55,11 @@ impl<B: Bank, P: Drop> Engine<B, P> {
         // It stands for the history for which the store is settled; for that of the journal where the store tells nothing.
         ensures stands { (told : Bool) → (IsTrue told → IsTrue B.tells) → (before : List HistoryStep) → (IsTrue told → IsSettled journal_bytes (B.view bank) before)
             → IfOk result (λ engine. (found : List HistoryStep) × IsFound told before found × StandsFor told B.view engine (new_world found)) }
+        // Whatever the store is settled for, it stands for the history that the journal holds.
+        ensures held { IfOk result (λ engine. (found : List HistoryStep) × StandsFor false B.view engine (new_world found) × (IsTrue B.tells → HoldsHistory journal_bytes ((B.view bank).content 0) found)) }
         ensures ready { IfOk result (λ engine. engine.due ≡ false) }
         ensures size { IfOk result (λ engine. engine.journal.size ≡ journal_bytes) }
         ensures unchanged { IsTrue B.tells → MatchResult result (λ engine. OnlyRead (B.view bank) (B.view engine.bank)) (λ shut. OnlyRead (B.view bank) (B.view shut.bank)) }
-        // Whatever the store is settled for, it stands for the history that the journal holds.
-        ensures held { IfOk result (λ engine. (found : List HistoryStep) × StandsFor false B.view engine (new_world found) × (IsTrue B.tells → HoldsHistory journal_bytes ((B.view bank).content 0) found)) }
         // The journal holds a history, or it is bad at a place.
         ensures journal { IsTrue B.tells → IfOk result (λ engine. (found : List HistoryStep) × HoldsHistory journal_bytes ((B.view bank).content 0) found) }
         ensures bad_journal { IsTrue B.tells → IfErr result (λ shut. TellsJournal journal_bytes ((B.view bank).content 0) shut.cause) }
@@ -134,12 +135,62 @@ impl<B: Bank, P: Drop> Engine<B, P> {
         ensures patterns { self.new.patterns ≡ self.old.patterns }
         ensures moment { IsTrue B.tells → (B.view self.old.bank).moment ≤ (B.view self.new.bank).moment }
     {
-        let _ = event;
         if self.due {
-            return Reply::NoMemory;
+            match self.recover() {
+                Ok(()) => self.serve_at(event, now),
+                Err(reply) => reply,
+            }
+        } else {
+            self.serve_at(event, now)
         }
+    }
+
+    // One event, where no reopening is due.
+    fn serve_at(&mut self, event: &Event, now: u64) -> Reply
+        requires { self.old.due ≡ false }
+        ensures turn { (told : Bool) → (IsTrue told → IsTrue B.tells) → (history : List HistoryStep) (clock : ℕ) → StandsFor told B.view self.old (at history clock)
+            → (w : World) × Turn self.old.journal.size told history event.now (moment_of clock now) (B.last_fault self.new.bank) result w × Moves told B.view self.old self.new (at history clock) w }
+        ensures fault { result ≡ Reply.BankFault → Rose (B.faults self.old.bank) (B.faults self.new.bank) }
+        ensures later { B.faults self.old.bank ≤ B.faults self.new.bank }
+        ensures ready { result ≢ Reply.BankFault → self.new.due ≡ false }
+        ensures journal { (size : ℕ) (c : Content) → RepliesJournal size c result }
+        ensures size { self.new.journal.size ≡ self.old.journal.size }
+        ensures patterns { self.new.patterns ≡ self.old.patterns }
+        ensures moment { IsTrue B.tells → (B.view self.old.bank).moment ≤ (B.view self.new.bank).moment }
+    {
         self.clock = self.clock.max(now.min(LAST_MOMENT));
-        Reply::NoMemory
+        self.serve(event)
+    }
+
+    // One event, whose moment is the clock.
+    fn serve(&mut self, event: &Event) -> Reply
+        requires { self.old.due ≡ false }
+        ensures turn { (told : Bool) → (IsTrue told → IsTrue B.tells) → (history : List HistoryStep) → StandsFor told B.view self.old (at history self.old.clock)
+            → (w : World) × Turn self.old.journal.size told history event.now self.old.clock (B.last_fault self.new.bank) result w × Moves told B.view self.old self.new (at history self.old.clock) w }
+        ensures fault { result ≡ Reply.BankFault → Rose (B.faults self.old.bank) (B.faults self.new.bank) }
+        ensures later { B.faults self.old.bank ≤ B.faults self.new.bank }
+        ensures ready { result ≢ Reply.BankFault → self.new.due ≡ false }
+        ensures journal { (size : ℕ) (c : Content) → RepliesJournal size c result }
+        ensures size { self.new.journal.size ≡ self.old.journal.size }
+        ensures patterns { self.new.patterns ≡ self.old.patterns }
+        ensures moment { IsTrue B.tells → (B.view self.old.bank).moment ≤ (B.view self.new.bank).moment }
+    {
+        match event {
+            Event::Put {
+                path,
+                owner,
+                group,
+                bytes,
+            } => self.put(
+                path.as_slice(),
+                owner.as_slice(),
+                group.as_slice(),
+                bytes.as_slice(),
+            ),
+            Event::Read { path, upto } => self.read(path.as_slice(), *upto),
+            Event::Remove { path } => self.remove(path.as_slice()),
+            _ => Reply::Line(LineRefusal::NotACommand),
+        }
     }
 
     /// How many steps were acknowledged.

@@ -73,6 +73,15 @@ impl Files {
         self.items.iter().position(|file| file.inode == inode)
     }
 
+    /// The inode of the file at an index.
+    pub fn inode_at(&self, index: usize) -> u32
+        requires { index < length self.now.list }
+        ensures inode { (file : Rec) → slice_get self.now.list index ≡ Some file → result ≡ file.inode }
+        ensures range { IsInode result }
+    {
+        self.items[index].inode
+    }
+
     /// Makes room for a further file.
     pub fn reserve(&mut self) -> Result<(), AllocError>
         ensures list { self.new.list ≡ self.old.list }

@@ -2,13 +2,22 @@
 #![tactic(auto)]
 
 mod apply;
+mod commit;
+mod data;
 mod engine;
 mod files;
 mod kept;
 mod legal;
+mod payload;
+mod put;
+mod read;
+mod remove;
 mod reopen;
 mod replay;
+mod rule;
 mod stored;
+#[cfg(test)]
+mod tests;
 
 pub use engine::{Shut, ShutCause};
 pub use files::Files;

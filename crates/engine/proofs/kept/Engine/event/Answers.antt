@@ -1,13 +1,23 @@
-use Rattle.std.proofs.Common.{refl, ◌∙◌, ap, arith, ℕ}
-use Rattle.std.specs.Prelude.{max}
-use Rattle.engine.proofs.Waits.{waits, waits_due}
+use Rattle.engine.proofs.Serving.{event_at_rest, event_reopened, event_refused}
 use Rattle.engine.proofs.kept.Engine.event.Goals as goal
 
-pub returns-then-self-clause-turn : goal.returns-then-self-clause-turn
-returns-then-self-clause-turn g c = λ told tells w stands.
-    waits_due told g.B.Bank.view c.args.self.now c.args.self.now (λ t. g.met.B.Bank.sound _ (tells t)) w stands _ _ _ _ c.if-self.true
+pub returns-in-Ok-clause-turn : goal.returns-in-Ok-clause-turn
+returns-in-Ok-clause-turn g c = λ told tells w s.
+    event_reopened told g.B.Bank.view c.args.self.now c.recover.new.self c.serve_at.new.self w s c.if-self.true c.args.event.now c.args.now _ _
+    (c.in-Ok.ensures.recovered told tells w s c.if-self.true) c.recover.ensures.size (λ history clock stands. c.serve_at.ensures.turn told tells history clock stands)
 
-pub returns-clause-turn : goal.returns-clause-turn
-returns-clause-turn g c = λ told tells w stands.
-    waits told g.B.Bank.view c.args.self.now _ (λ t. g.met.B.Bank.sound _ (tells t)) w stands refl refl refl refl c.if-self.false c.if-self.false _ _ _ _
-    (c.max-self.ensures ∙ ap (λ (n : ℕ). max c.args.self.now.clock n) c.min.ensures) (omega arith) (omega (arith, stands.range))
+pub returns-in-Ok-clause-bad_journal : goal.returns-in-Ok-clause-bad_journal
+returns-in-Ok-clause-bad_journal g c = λ tells. c.serve_at.ensures.journal c.args.self.now.journal.size ((g.B.Bank.view c.serve_at.new.self.bank).content 0)
+
+pub returns-in-Err-clause-turn : goal.returns-in-Err-clause-turn
+returns-in-Err-clause-turn g c = λ told tells w s.
+    let refused = c.in-Err.ensures.recovered told tells w s c.if-self.true in
+    event_refused told g.B.Bank.view c.args.self.now c.recover.new.self w s c.if-self.true c.args.self.now.journal.size c.args.event.now c.args.now _ _ refused.0 refused.1
+
+pub returns-else-self-clause-turn : goal.returns-else-self-clause-turn
+returns-else-self-clause-turn g c = λ told tells w s.
+    event_at_rest told g.B.Bank.view c.args.self.now c.serve_at-else-self.new.self w s c.if-self.false c.args.self.now.journal.size c.args.event.now c.args.now _ _
+    (λ history clock stands. c.serve_at-else-self.ensures.turn told tells history clock stands)
+
+pub returns-else-self-clause-bad_journal : goal.returns-else-self-clause-bad_journal
+returns-else-self-clause-bad_journal g c = λ tells. c.serve_at-else-self.ensures.journal c.args.self.now.journal.size ((g.B.Bank.view c.serve_at-else-self.new.self.bank).content 0)

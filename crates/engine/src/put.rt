@@ -1,0 +1,129 @@
+//! Puts.
+
+ghost use Rattle.std.specs.Prelude.{◌≡◌, ◌≢◌, ◌+◌, ◌<◌, ◌≤◌, ◌^◌, ◌++◌, [], ◌∷◌, ℕ, Bool, List as Seq, IsTrue, false, length, IfOk, OnOk};
+ghost use Rattle.std.specs.List.{AllByRecursion};
+ghost use Rattle.site_text.specs.Causes.{Rose};
+ghost use Rattle.records.specs.Paths.{is_legal_path, is_legal_name};
+ghost use Rattle.records.specs.Ranges.{IsInode, IsRun};
+ghost use Rattle.records.specs.Written.{written, InRange};
+ghost use Rattle.records.specs.declared.event.Event.TheVariants.{Put as PutEvent};
+ghost use Rattle.records.specs.declared.file.Run.{Run};
+ghost use Rattle.journal.specs.Records.{IsPayload};
+ghost use Rattle.cache_space.specs.Blocks.{blocks_for, free_blocks, lowest_runs};
+ghost use Rattle.cache_space.specs.Space.{taken_by, AreMaximal};
+ghost use Rattle.site_history.specs.Site.{Fields, held_runs};
+ghost use Rattle.site_history.specs.Steps.{HistoryStep, inode_for};
+ghost use Rattle.site_history.specs.Answers.{put_made};
+ghost use Rattle.site_history.specs.Worlds.{World, at, Turn};
+ghost use Rattle.engine.specs.Fields.{put_runs};
+ghost use Rattle.engine.specs.Ready.{IsUnmoved};
+ghost use Rattle.engine.specs.Room.{HasRoomFor};
+ghost use Rattle.bank.specs.Content.{Content};
+ghost use Rattle.engine.specs.Journals.{RepliesJournal};
+ghost use Rattle.engine.specs.StandsFor.{Keeps, StandsFor, Moves};
+
+use crate::data::store;
+use crate::kept::Engine;
+use crate::payload::write_payload;
+use bank::Bank;
+use cache_space::{CacheSpace, blocks_needed};
+use records::{Reply, Run, Step, StepKind};
+use site_text::{Bytes, List};
+use std::alloc::AllocError;
+
+// The lowest free blocks for so many bytes.
+fn free_runs(space: &CacheSpace, size: u32) -> Result<List<Run>, AllocError>
+    ensures lowest { (total : ℕ) (held : Seq Run) → space.now ≡ taken_by total held → blocks_for size ≤ length (free_blocks total held)
+        → IfOk result (λ runs. runs ≡ lowest_runs total held (blocks_for size)) }
+    ensures few { IfOk result (λ runs. length runs ≤ blocks_for size) }
+    ensures small { IfOk result (λ runs. AllByRecursion IsRun runs) }
+    ensures maximal { IfOk result (λ runs. AreMaximal runs) }
+{
+    let _blocks = space.blocks();
+    match space.lowest(blocks_needed(size), &[]) {
+        Ok(runs) => Ok(runs),
+        Err(_) => Err(AllocError),
+    }
+}
+
+// The runs of a put's step.
+fn runs_of(step: &Step) -> &[Run]
+    ensures { result.now ≡ put_runs step.now }
+{
+    match &step.kind {
+        StepKind::Put { runs, .. } => runs.as_slice(),
+        _ => &[],
+    }
+}
+
+impl<B: Bank, P: Drop> Engine<B, P> {
+    // Takes all memory of a put that no rule refuses: its step is given, and its written form is in the buffer.
+    fn prepare_put(
+        &mut self,
+        inode: u32,
+        path: &[u8],
+        owner: &[u8],
+        group: &[u8],
+        size: u32,
+    ) -> Result<Step, AllocError>
+        requires small { size ≤ 16777216 }
+        requires inode { IsInode inode }
+        requires legal { IsTrue (is_legal_path path.now) × IsTrue (is_legal_name owner.now) × IsTrue (is_legal_name group.now) }
+        ensures step { (fields : Fields) → Keeps self.old.site fields → inode ≡ inode_for fields path.now → blocks_for size ≤ length (free_blocks fields.blocks (held_runs fields.files))
+            → IfOk result (λ step. step ≡ put_made fields self.old.clock path.now owner.now group.now size) }
+        ensures written { IfOk result (λ step. self.new.payload.items ≡ written step) }
+        ensures bounded { OnOk result (IsPayload self.new.payload.items) }
+        ensures range { IfOk result (λ step. InRange step) }
+        ensures room { IfOk result (λ step. HasRoomFor self.new.site.files step) }
+        ensures maximal { IfOk result (λ step. AreMaximal (put_runs step)) }
+        ensures unmoved { IsUnmoved self.old self.new }
+    {
+        let runs = free_runs(&self.site.space, size)?;
+        let step = Step {
+            moment: self.clock,
+            kind: StepKind::Put {
+                inode,
+                path: Bytes::from_slice(self.alloc, path)?,
+                owner: Bytes::from_slice(self.alloc, owner)?,
+                group: Bytes::from_slice(self.alloc, group)?,
+                length: size as u64,
+                runs,
+            },
+        };
+        write_payload(&step, &mut self.payload)?;
+        self.site.files.reserve()?;
+        Ok(step)
+    }
+
+    /// Stores a file of these bytes. The event's moment is the clock.
+    pub fn put(&mut self, path: &[u8], owner: &[u8], group: &[u8], bytes: &[u8]) -> Reply
+        requires { self.old.due ≡ false }
+        ensures turn { (told : Bool) → (IsTrue told → IsTrue B.tells) → (history : Seq HistoryStep) → StandsFor told B.view self.old (at history self.old.clock)
+            → (w : World) × Turn self.old.journal.size told history (PutEvent path.now owner.now group.now bytes.now) self.old.clock (B.last_fault self.new.bank) result w × Moves told B.view self.old self.new (at history self.old.clock) w }
+        ensures fault { result ≡ Reply.BankFault → Rose (B.faults self.old.bank) (B.faults self.new.bank) }
+        ensures later { B.faults self.old.bank ≤ B.faults self.new.bank }
+        ensures ready { result ≢ Reply.BankFault → self.new.due ≡ false }
+        ensures journal { (size : ℕ) (c : Content) → RepliesJournal size c result }
+        ensures size { self.new.journal.size ≡ self.old.journal.size }
+        ensures patterns { self.new.patterns ≡ self.old.patterns }
+        ensures moment { IsTrue B.tells → (B.view self.old.bank).moment ≤ (B.view self.new.bank).moment }
+    {
+        if let Some(rule) = self.site.put_rule(path, owner, group, bytes.len()) {
+            return Reply::Refused(rule);
+        }
+        let (inode, created) = self.site.inode_of(path);
+        let Ok(step) = self.prepare_put(inode, path, owner, group, bytes.len() as u32) else {
+            return Reply::NoMemory;
+        };
+        if !self.journal.has_room(self.payload.len()) {
+            return Reply::JournalFull;
+        }
+        let Ok(()) = store(&mut self.bank, runs_of(&step), bytes) else {
+            return Reply::BankFault;
+        };
+        match self.commit(step) {
+            Ok(()) => Reply::Stored { inode, created },
+            Err(_) => Reply::BankFault,
+        }
+    }
+}
