@@ -16,4 +16,6 @@ mod world;
 pub use lines::plain_output;
 
 #[cfg(test)]
+mod crash_tests;
+#[cfg(test)]
 mod tests;
