@@ -4,9 +4,13 @@
 Run after `rt ci`, which leaves the program in crates/samq/out/. The expected bytes are written out by hand.
 """
 import os
+import random
+import shutil
+import signal
 import subprocess
 import sys
 import tempfile
+import time
 
 TOP = os.path.dirname(os.path.dirname(os.path.abspath(__file__)))
 SAMQ = os.path.join(TOP, "crates", "samq", "out", "samq")
@@ -50,25 +54,175 @@ def area(folder, number_of_area):
         return file.read()
 
 
+def accessed_record(inode, moment=0):
+    payload = b"\x03" + number(moment) + number(inode)
+    return b"\x01" + len(payload).to_bytes(4, "little") + payload
+
+
+def removed_record(inode, moment=0):
+    payload = b"\x04" + number(moment) + number(inode)
+    return b"\x01" + len(payload).to_bytes(4, "little") + payload
+
+
 def first_put():
     with tempfile.TemporaryDirectory() as top:
         folder = os.path.join(top, "site")
         check("first put", run(["run", folder], b"put /a u g hi\n"), (0, b"ok 1\n", b""))
-        check("journal on disk", area(folder, 0), put_record(1, b"/a", b"u", b"g", 2, [(0, 1)]) + b"\x00")
+        journal = put_record(1, b"/a", b"u", b"g", 2, [(0, 1)])
+        check("journal on disk", area(folder, 0), journal + b"\x00")
         check("cache on disk", area(folder, 1), b"hi")
-        check("a second process", run(["run", folder], b"put /b u g yo\n"), (2, b"bad journal at 0\n", b""))
-        check("journal as it was", area(folder, 0), put_record(1, b"/a", b"u", b"g", 2, [(0, 1)]) + b"\x00")
+        check("a second process", run(["run", folder], b"put /b u g yo\ncat /a\n"), (0, b"ok 2\nbytes 2\nhi\n", b""))
+        journal += put_record(2, b"/b", b"u", b"g", 2, [(1, 1)]) + accessed_record(1)
+        check("its journal", area(folder, 0), journal + b"\x00")
+
+
+def replaced_and_removed():
+    with tempfile.TemporaryDirectory() as folder:
+        lines = b"at 100\nput /a u g one\nput /a v h other\nput /b u g two\nat 50\ncat /a\nhead /b 2\nrm /a\nrm /a\ncat /a\nput /c u g \n"
+        answers = b"at 100\nok 1\nok 1\nok 2\nat 100\nbytes 5\nother\nbytes 2\ntw\nok 1\nrefused: no file\nrefused: no file\nok 3\n"
+        check("replaced and removed", run(["run", folder], lines), (0, answers, b""))
+        # The old block of a replaced file is free again behind its record, and the lowest one is taken first.
+        records = put_record(1, b"/a", b"u", b"g", 3, [(0, 1)], 100) + put_record(1, b"/a", b"v", b"h", 5, [(1, 1)], 100)
+        records += put_record(2, b"/b", b"u", b"g", 3, [(0, 1)], 100) + accessed_record(1, 100) + accessed_record(2, 100)
+        records += removed_record(1, 100) + put_record(3, b"/c", b"u", b"g", 0, [], 100)
+        check("their journal", area(folder, 0), records + b"\x00")
+        check("the site's last moment", run(["run", folder], b"at 7\nput /d u g x\n"), (0, b"at 100\nok 4\n", b""))
 
 
 def several_puts():
     with tempfile.TemporaryDirectory() as folder:
-        lines = b"put /a u g hi\r\nput /empty u g\n# a comment\n\n  put /b v h  two  blanks \nput /a u g again\nrm /a"
-        answers = b"ok 1\nok 2\nok 3\nrefused: exists\nrefused: not a command\n"
+        lines = b"put /a u g hi\r\nput /empty u g\n# a comment\n\n  put /b v h  two  blanks \nfrob\nrm\nrm /none\nput a u g x"
+        answers = b"ok 1\nok 2\nok 3\nrefused: not a command\nrefused: bad word 2\nrefused: no file\nrefused: bad path\n"
         check("several puts", run(["run", folder], lines), (0, answers, b""))
         records = put_record(1, b"/a", b"u", b"g", 2, [(0, 1)]) + put_record(2, b"/empty", b"u", b"g", 0, [])
         records += put_record(3, b"/b", b"v", b"h", 13, [(1, 1)])
         check("their journal", area(folder, 0), records + b"\x00")
         check("their cache", area(folder, 1), b"hi" + bytes(4094) + b" two  blanks ")
+        check("a line too long", run(["run", folder], b"# " + b"x" * 4095 + b"\n"), (0, b"refused: line too long\n", b""))
+
+
+def bad_journal():
+    with tempfile.TemporaryDirectory() as folder:
+        os.mkdir(os.path.join(folder, "bank"))
+        for given, place in ((bytes.fromhex("0105000000ff00000000"), 0), (put_record(2, b"/a", b"u", b"g", 0, []), 0),
+                             (put_record(1, b"/a", b"u", b"g", 0, []) + removed_record(2), len(put_record(1, b"/a", b"u", b"g", 0, [])))):
+            with open(os.path.join(folder, "bank", "0"), "wb") as file:
+                file.write(given)
+            answer = b"bad journal at %d\n" % place
+            check(f"a bad journal at {place}", run(["run", folder], b"put /b u g yo\n"), (2, answer, b""))
+            check("it is as it was", area(folder, 0), given)
+
+
+def no_space():
+    with tempfile.TemporaryDirectory() as folder:
+        lines = b"".join(b"make /f%d u g 16777216 %d\n" % (i, i) for i in range(1, 5))
+        lines += b"put /x u g y\nput /x u g\nmake /y u g 16777217 0\nmake /f1 u g 1 0\nrm /f2\nmake /f1 u g 3 254\ncat /f1\n"
+        answers = b"ok 1\nok 2\nok 3\nok 4\nrefused: no space\nok 5\nrefused: too large\nrefused: no space\nok 2\nok 1\nbytes 3\n\xfe\xff\x00\n"
+        check("no space", run(["run", folder], lines), (0, answers, b""))
+        made = bytes(i % 256 for i in range(3, 3 + 4096))
+        check("made bytes", run(["run", folder], b"head /f3 4096\n"), (0, b"bytes 4096\n" + made + b"\n", b""))
+
+
+def state_after(script):
+    """What the files hold after these lines, by their paths."""
+    files = {}
+    for line in script:
+        given = line.split(b" ")
+        if given[0] == b"put":
+            files[given[1]] = given[4]
+        else:
+            files.pop(given[1], None)
+    return files
+
+
+def script_of(chance, length):
+    """Lines that put, replace and remove a few files, each of them answered by `ok`."""
+    script, files = [], set()
+    for i in range(length):
+        path = b"/f%d" % chance.randrange(8)
+        if path in files and chance.random() < 0.3:
+            script.append(b"rm " + path)
+            files.discard(path)
+        else:
+            script.append(b"put %s u g %s" % (path, b"%d-" % i * chance.randrange(1, 300)))
+            files.add(path)
+    return script
+
+
+def contents(folder):
+    given = b"".join(b"cat /f%d\n" % i for i in range(8))
+    code, out, _ = run(["run", folder], given)
+    files = {}
+    for i in range(8):
+        if out.startswith(b"refused: no file\n"):
+            out = out[len(b"refused: no file\n"):]
+            continue
+        head, out = out.split(b"\n", 1)
+        count = int(head.split(b" ")[1])
+        files[b"/f%d" % i] = out[:count]
+        out = out[count + 1:]
+    return code, files
+
+
+def killed():
+    """A process is killed at a random moment: what it acknowledged is there, and at most one line more."""
+    chance = random.Random(7)
+    for turn in range(12):
+        with tempfile.TemporaryDirectory() as folder:
+            script = script_of(chance, 400)
+            process = subprocess.Popen([SAMQ, "run", folder], stdin=subprocess.PIPE, stdout=subprocess.PIPE)
+            os.set_blocking(process.stdin.fileno(), False)
+            given = b"\n".join(script) + b"\n"
+            process.stdin.write(given[:60000])
+            process.stdin.flush()
+            time.sleep(chance.random() * 0.25)
+            process.send_signal(signal.SIGKILL)
+            answers = process.stdout.read().split(b"\n")
+            process.wait(60)
+            acknowledged = len([answer for answer in answers[:-1] if answer.startswith(b"ok ")])
+            code, files = contents(folder)
+            kept = files in (state_after(script[:acknowledged]), state_after(script[:acknowledged + 1]))
+            check(f"killed {turn}: after {acknowledged} answers", (code, kept), (0, True))
+
+
+def under_calls(top, folder, given, **more):
+    """Runs the program over the library that notes its calls; gives what it answered and the calls, each as its words."""
+    library, notes = os.path.join(top, "calls.so"), os.path.join(top, "calls")
+    if not os.path.exists(library):
+        source = os.path.join(TOP, "tests", "calls.c")
+        subprocess.run(["cc", "-O1", "-shared", "-fPIC", "-o", library, source, "-ldl"], check=True)
+    names = dict(os.environ, LD_PRELOAD=library, CALLS=notes, **more)
+    done = subprocess.run([SAMQ, "run", folder], input=given, stdout=subprocess.PIPE, env=names, timeout=60)
+    with open(notes) as file:
+        return done.stdout, [line.split(" ") for line in file.read().splitlines()]
+
+
+def answers_after_syncs():
+    """The calls of the store and of the output, numbered together: an answer goes out behind the last sync of its step."""
+    with tempfile.TemporaryDirectory() as top:
+        given = b"put /a u g hi\nput /a u g ho\ncat /a\nrm /a\n"
+        out, calls = under_calls(top, os.path.join(top, "site"), given)
+        check("answers", out, b"ok 1\nok 1\nbytes 2\nho\nok 1\n")
+        made = [(words[0], words[1]) for words in calls if words[1] in ("0", "1", "answer")]
+        opening = [("sync", "0")] if made[:1] == [("sync", "0")] else []
+        record = [("write", "0"), ("sync", "0"), ("write", "0"), ("sync", "0"), ("write", "answer")]
+        put = [("write", "1"), ("sync", "1")] + record
+        check("calls in order", made, opening + put + put + record + record)
+
+
+def killed_at_each_call():
+    """A process is killed before each of its calls: what it acknowledged is there, and at most one line more."""
+    script = [b"put /f1 u g one", b"put /f2 u g two", b"put /f1 u g three", b"rm /f2", b"put /f3 u g " + b"x" * 4000, b"rm /f1"]
+    given = b"\n".join(script) + b"\n"
+    with tempfile.TemporaryDirectory() as top:
+        _, calls = under_calls(top, os.path.join(top, "whole"), given)
+        for number_of_call in range(1, len(calls) + 1):
+            folder = os.path.join(top, str(number_of_call))
+            out, _ = under_calls(top, folder, given, CALLS_KILL=str(number_of_call))
+            acknowledged = out.count(b"\n")
+            code, files = contents(folder)
+            kept = files in (state_after(script[:acknowledged]), state_after(script[:acknowledged + 1]))
+            check(f"killed at call {number_of_call}: after {acknowledged} answers", (code, kept), (0, True))
 
 
 def words():
@@ -102,8 +256,13 @@ def main():
     if not os.path.exists(SAMQ):
         print(f"skipped: {SAMQ} is not built")
         return 0
-    for test in (first_put, several_puts, words, locked, no_folder):
+    for test in (first_put, replaced_and_removed, several_puts, bad_journal, no_space, killed, words, locked, no_folder):
         test()
+    if shutil.which("cc"):
+        answers_after_syncs()
+        killed_at_each_call()
+    else:
+        print("skipped the tests over numbered calls: no C compiler")
     print(f"{passed} passed, {failed} failed")
     return 1 if failed else 0
 

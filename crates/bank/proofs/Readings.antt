@@ -1,8 +1,8 @@
 -- Calls that write nothing: reads, syncs, and calls that changed nothing.
-use Rattle.std.proofs.Common.{inl, inr, ⊎_elim, ℕ, List, refl, sym, ◌∙◌, arith}
+use Rattle.std.proofs.Common.{ℕ, List, refl, sym, ◌∙◌, arith}
 use Rattle.bank.specs.Content.{Image, Stands}
 use Rattle.bank.specs.View.{View, IsImage, IsSound, Unchanged, OnlyContent, LeavesOnly, IsTornImage, Wrote, OnlyRead}
-use Rattle.bank.proofs.Moments.{started, weakened, joined}
+use Rattle.bank.proofs.Moments.{started, weakened, joined, one_call}
 use Rattle.bank.proofs.Spans.{Stands-same}
 use Rattle.bank.proofs.Writes.{image_is_torn, wrote_then}
 
@@ -15,15 +15,11 @@ nothing_read v sound = record {
 }
 
 -- one call
-pub only_read : (old new : View) → IsSound old → Unchanged old new → OnlyRead old new
-only_read old new sound h = record {
+pub only_read : (old new : View) → IsSound old → IsSound new → Unchanged old new → OnlyRead old new
+only_read old new sound sound_then h = record {
   content = h.content;
   images = h.images;
-  moments = record {
-    later = h.time.later;
-    each = λ c left. ⊎_elim (λ was. sound.only_now c was) (before c) (h.time.nothing_else old.moment c (omega arith) left);
-    before = λ t c le left. ⊎_elim (λ was. inl was) (λ now. inr (before c now)) (h.time.nothing_else t c le left);
-  };
+  moments = one_call old new (IsImage old) sound sound_then h.time (λ c image. image) before;
 }
   where
     before : (c : Image) → IsImage new c → IsImage old c

@@ -1,8 +1,8 @@
 -- Calls that write within one range of one area.
-use Rattle.std.proofs.Common.{◌≢◌, ◌⊎◌, inl, inr, ⊎_elim, ℕ, ◌+◌, ◌<◌, ◌≤◌, refl, sym, ◌∙◌, arith}
+use Rattle.std.proofs.Common.{◌≢◌, ◌⊎◌, inl, inr, ℕ, ◌+◌, ◌<◌, ◌≤◌, refl, sym, ◌∙◌, arith}
 use Rattle.bank.specs.Content.{Content, Image, SameOutside}
 use Rattle.bank.specs.View.{View, IsImage, IsSound, Unchanged, Touches, Wrote, IsTornImage}
-use Rattle.bank.proofs.Moments.{weakened, joined}
+use Rattle.bank.proofs.Moments.{weakened, joined, one_call}
 
 module _ (area p n : ℕ) where
   pub image_is_torn : (v : View) (c : Image) → IsImage v c → IsTornImage v area p n c
@@ -15,24 +15,20 @@ module _ (area p n : ℕ) where
       record { torn = (e.0, e.1, λ k out. h.torn.2 k out ∙ e.2 k out); others = λ a ne. others a (c a) ne (h.others a ne) }
 
   -- one call
-  pub wrote : (old new : View) → IsSound old → Touches area p n old new → Wrote area p n old new
-  wrote old new sound h = record {
+  pub wrote : (old new : View) → IsSound old → IsSound new → Touches area p n old new → Wrote area p n old new
+  wrote old new sound sound_then h = record {
     content = h.content;
     other_content = h.other_content;
     images = h.images;
     other_images = h.other_images;
-    moments = record {
-      later = h.time.later;
-      each = λ c left. ⊎_elim (λ was. image_is_torn old c (sound.only_now c was)) (now c) (h.time.nothing_else old.moment c (omega arith) left);
-      before = λ t c le left. ⊎_elim (λ was. inl was) (λ i. inr (now c i)) (h.time.nothing_else t c le left);
-    };
+    moments = one_call old new (IsTornImage old area p n) sound sound_then h.time (image_is_torn old) now;
   }
     where
       now : (c : Image) → IsImage new c → IsTornImage old area p n c
       now c image = torn_image old new c h.images h.other_images (image_is_torn new c image)
 
-  pub wrote_nothing : (old new : View) → IsSound old → Unchanged old new → Wrote area p n old new
-  wrote_nothing old new sound h = wrote old new sound (record {
+  pub wrote_nothing : (old new : View) → IsSound old → IsSound new → Unchanged old new → Wrote area p n old new
+  wrote_nothing old new sound sound_then h = wrote old new sound sound_then (record {
     content = λ k out. sym (h.content area k);
     other_content = λ a ne. h.content a;
     images = λ c left. (c, h.images area c left, λ k out. refl);

@@ -44,12 +44,18 @@ pub record Touches (area p n : ℕ) (old new : View) : Type 0 where
 abbrev pub OnlyContent : ℕ → View → Type 0
 OnlyContent area v = (c : Content) → v.may_leave area c → Same (v.content area) c
 
+-- an image since each moment up to this one
+abbrev pub IsSince : View → ℕ → Image → Type 0
+IsSince v moment c = (t : ℕ) → t ≤ moment → v.left_since t c
+
 -- from the moment of old to that of new, each image has P
 pub record LeavesOnly (old new : View) (P : Image → Type 0) : Type 0 where
   pub later : old.moment ≤ new.moment
   pub each : (c : Image) → new.left_since old.moment c → P c
-  -- and so an image since an earlier moment is one from before, or has P
-  pub before : (t : ℕ) (c : Image) → t ≤ old.moment → new.left_since t c → old.left_since t c ⊎ P c
+  -- and so an image since an earlier moment is one from before, or it is from this time and has P
+  pub before : (t : ℕ) (c : Image) → t ≤ old.moment → new.left_since t c → old.left_since t c ⊎ (P c × IsSince new old.moment c)
+  -- an image from before stays one
+  pub keeps : (t : ℕ) (c : Image) → t ≤ old.moment → old.left_since t c → new.left_since t c
 
 -- an image of v in which n bytes of one area may be torn
 pub record IsTornImage (v : View) (area p n : ℕ) (c : Image) : Type 0 where

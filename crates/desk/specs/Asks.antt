@@ -1,31 +1,48 @@
 -- What a line asks: a table of the commands, each with the forms of its words and what it asks by their values.
-use Rattle.std.specs.Prelude.{◌≡◌, ℕ, List, [], ◌∷◌, codes, length, Option, Some, None, Ok, Err, Bool, nat_lt, nat_le, ◌==◌, ◌&&◌, ◌||◌, slice_index, if◌then◌else◌}
-use Rattle.std.specs.List.{list_all}
-use Rattle.std.specs.Str.{bytes_eq}
-use Rattle.records.specs.declared.event.Event.TheVariants.{Put as EventPut}
+use Rattle.std.specs.Prelude.{◌≡◌, ℕ, ◌+◌, ◌-◌, ◌%◌, ◌^◌, List, [], ◌∷◌, codes, length, map, min, Option, Some, None, Ok, Err, Bool, nat_lt, nat_le, ◌==◌, ◌&&◌, ◌||◌, slice_index, if◌then◌else◌}
+use Rattle.std.specs.List.{list_all, range_with_len}
+use Rattle.site_text.specs.Words.{named}
+use Rattle.records.specs.declared.event.Event.TheVariants.{Put as PutEvent, Read as ReadEvent, Remove as RemoveEvent}
 use Rattle.records.specs.declared.event.Asked.{Asked}
-use Rattle.records.specs.declared.event.Asked.TheVariants.{One}
+use Rattle.records.specs.declared.event.Asked.TheVariants.{One, At as AtMoment, Configure as AskedConfigure}
 use Rattle.records.specs.declared.reply.LineRefusal.TheVariants.{NotACommand, BadWord, LineTooLong, NoMemory}
-use Rattle.desk.specs.declared.command.Command.{Command}
-use Rattle.desk.specs.declared.command.Command.TheVariants.{Put}
-use Rattle.desk.specs.Forms.{is_blank, first_word, after_word, Read, ◌>>=◌, Form, Word, Rest, Values, values_at}
+use Rattle.desk.specs.declared.commands.Command.{Command}
+use Rattle.desk.specs.declared.commands.Command.TheVariants.{At, Put, Make, Cat, Head, Remove, Configure}
+use Rattle.desk.specs.Forms.{is_blank, first_word, after_word, Read, ◌>>=◌, Form, Word, NumberWord, Size, Seed, Rest, Values, values_at}
 
--- what a word stands for in a table
-abbrev pub named : {D : Type 0} → List (List ℕ × D) → List ℕ → Option D
-named [] word = None
-named (entry ∷ entries) word = if bytes_eq word entry.0 then Some entry.1 else named entries word
+-- ---- the table
 
 abbrev pub commands : List (List ℕ × Command)
-commands = (codes "put", Put) ∷ []
+commands =
+    (codes "at", At) ∷ (codes "put", Put) ∷ (codes "make", Make) ∷ (codes "cat", Cat) ∷ (codes "head", Head) ∷ (codes "rm", Remove)
+    ∷ (codes "configure", Configure) ∷ []
 
 abbrev pub forms_of : Command → List Form
+forms_of At = NumberWord 0 (2 ^ 40 - 1) ∷ []
 forms_of Put = Word ∷ Word ∷ Word ∷ Rest ∷ []
+forms_of Make = Word ∷ Word ∷ Word ∷ Size ∷ Seed ∷ []
+forms_of Cat = Word ∷ []
+forms_of Head = Word ∷ NumberWord 0 16777216 ∷ []
+forms_of Remove = Word ∷ []
+forms_of Configure = []
+
+-- Byte i is (i + seed) mod 256. Of a size over the longest file's 16,777,216 there is one byte more than that.
+unfoldable pub made_bytes : ℕ → ℕ → List ℕ
+made_bytes size seed = map (λ i. (i + seed) % 256) (range_with_len 0 (min size 16777217))
 
 abbrev pub asked_with : (command : Command) → Values (forms_of command) → Asked
-asked_with Put (path, (owner, (group, (text, end)))) = One (EventPut path owner group text)
+asked_with At (moment, end) = AtMoment moment
+asked_with Put (path, (owner, (group, (text, end)))) = One (PutEvent path owner group text)
+asked_with Make (path, (owner, (group, (size, (seed, end))))) = One (PutEvent path owner group (made_bytes size seed))
+asked_with Cat (path, end) = One (ReadEvent path 16777216)
+asked_with Head (path, (upto, end)) = One (ReadEvent path upto)
+asked_with Remove (path, end) = One (RemoveEvent path)
+asked_with Configure end = AskedConfigure
+
+-- ---- lines
 
 -- what a command asks, by the words behind it
-abbrev pub asked_by : Command → List ℕ → Read Asked
+unfoldable pub asked_by : Command → List ℕ → Read Asked
 asked_by command text = values_at (forms_of command) 2 text >>= λ values. Ok (asked_with command values)
 
 -- what a line asks by its words
@@ -36,23 +53,22 @@ command_of line = by_name (named commands (first_word line))
     by_name None = Err NotACommand
     by_name (Some command) = asked_by command (after_word line)
 
--- every refusal is told as "not a command"
-abbrev pub or_no_command : Read Asked → Read Asked
-or_no_command (Ok asked) = Ok asked
-or_no_command (Err refusal) = Err NotACommand
-
--- What a line asks, its end left out. A line of over 4,096 bytes is no command.
+-- What a line asks, its end left out. A line of over 4,096 bytes is too long.
 unfoldable pub asked_of : List ℕ → Read Asked
-asked_of line = if nat_lt 4096 (length line) then Err NotACommand else or_no_command (command_of line)
+asked_of line = if nat_lt 4096 (length line) then Err LineTooLong else command_of line
 
 -- A line of only blanks, or that begins with `#`, is passed over without an answer, unless it has over 4,096 bytes.
 unfoldable pub is_skipped : List ℕ → Bool
 is_skipped line = nat_le (length line) 4096 && (slice_index line 0 == 35 || list_all is_blank line)
 
+-- the meaning, unless memory was wanting
+abbrev pub unless_memory : Read Asked → Read Asked → Read Asked
+unless_memory (Ok asked) meaning = meaning
+unless_memory (Err NotACommand) meaning = meaning
+unless_memory (Err (BadWord number)) meaning = meaning
+unless_memory (Err LineTooLong) meaning = meaning
+unless_memory (Err NoMemory) meaning = Err NoMemory
+
 -- a reader's answer is the line's meaning, want of memory aside
 abbrev pub Answers : Read Asked → Read Asked → Type 0
-Answers (Ok asked) meaning = meaning ≡ Ok asked
-Answers (Err NotACommand) meaning = meaning ≡ Err NotACommand
-Answers (Err (BadWord number)) meaning = meaning ≡ Err (BadWord number)
-Answers (Err LineTooLong) meaning = meaning ≡ Err LineTooLong
-Answers (Err NoMemory) meaning = Unit {0}
+Answers answer meaning = answer ≡ unless_memory answer meaning

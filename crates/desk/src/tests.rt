@@ -198,21 +198,86 @@ fn puts_are_read(rt: HostRuntime) {
     }
 }
 
-#[test]
-fn other_lines(rt: HostRuntime) {
-    for line in [
-        b"frob".as_slice(),
-        b"put",
-        b"put /a u",
-        b"puts /a u g",
-        b"Put /a u g",
-    ] {
-        let refused = matches!(read_line(rt.alloc(), line), Err(LineRefusal::NotACommand));
-        assert!(rt; refused);
-        assert!(rt; !is_skipped(line));
+fn refused_word(alloc: Global, line: &[u8]) -> u32 {
+    match read_line(alloc, line) {
+        Err(LineRefusal::NotACommand) => 1,
+        Err(LineRefusal::BadWord(number)) => number,
+        _ => 0,
     }
+}
+
+#[test]
+fn refused_lines(rt: HostRuntime) {
+    let table = [
+        (b"frob".as_slice(), 1),
+        (b"Put /a u g", 1),
+        (b"rm", 2),
+        (b"rm /a /b", 3),
+        (b"put /a u", 4),
+        (b"at 1099511627776", 2),
+        (b"at 000000000000000000001", 2),
+        (b"at 5s", 2),
+        (b"head /a 16777217", 3),
+        (b"make /a u g 1024T 1", 5),
+        (b"make /a u g 8kk 1", 5),
+        (b"make /a u g 8 1234567890", 6),
+        (b"make /a u g 8 1 x", 7),
+        (b"configure now", 2),
+    ];
+    for (line, number) in table {
+        assert!(rt; refused_word(rt.alloc(), line) == number);
+    }
+}
+
+#[test]
+fn skipped_lines(rt: HostRuntime) {
     for line in [b"".as_slice(), b" \t", b"#", b"# put /a u g"] {
         assert!(rt; is_skipped(line));
     }
     assert!(rt; !is_skipped(b" # x"));
+    let long = [b' '; 4097];
+    assert!(rt; !is_skipped(&long));
+    let refused = matches!(read_line(rt.alloc(), &long), Err(LineRefusal::LineTooLong));
+    assert!(rt; refused);
+}
+
+fn asks_moment(alloc: Global, line: &[u8], moment: u64) -> bool {
+    match read_line(alloc, line) {
+        Ok(Asked::At(at)) => at == moment,
+        _ => false,
+    }
+}
+
+fn asks_read(alloc: Global, line: &[u8], path: &[u8], most: u32) -> bool {
+    match read_line(alloc, line) {
+        Ok(Asked::One(Event::Read { path: of, upto })) => of.as_slice() == path && upto == most,
+        _ => false,
+    }
+}
+
+fn asks_removal(alloc: Global, line: &[u8], path: &[u8]) -> bool {
+    match read_line(alloc, line) {
+        Ok(Asked::One(Event::Remove { path: of })) => of.as_slice() == path,
+        _ => false,
+    }
+}
+
+fn asks_made(alloc: Global, line: &[u8], wanted: &[u8]) -> bool {
+    match read_line(alloc, line) {
+        Ok(Asked::One(Event::Put { bytes, .. })) => bytes.as_slice() == wanted,
+        _ => false,
+    }
+}
+
+#[test]
+fn other_lines(rt: HostRuntime) {
+    let alloc = rt.alloc();
+    assert!(rt; asks_moment(alloc, b"at 00000001099511627775", 1099511627775));
+    assert!(rt; asks_read(alloc, b" cat  /a ", b"/a", 16777216));
+    assert!(rt; asks_read(alloc, b"head /a 0", b"/a", 0));
+    assert!(rt; asks_removal(alloc, b"rm\t/a", b"/a"));
+    assert!(rt; asks_made(alloc, b"make /a u g 3 254", &[254, 255, 0]));
+    assert!(rt; asks_made(alloc, b"make /a u g 0k 7", b""));
+    let configures = matches!(read_line(alloc, b"configure"), Ok(Asked::Configure));
+    assert!(rt; configures);
 }

@@ -1,11 +1,11 @@
 //! The words of a line.
 
-ghost use Rattle.std.specs.Prelude.{◌≡◌, ◌≤◌, ◌<◌, ℕ, List as Seq, [], length, take, drop, IsTrue, ◌↔◌, position, IfSome, MatchResult};
+ghost use Rattle.std.specs.Prelude.{◌≡◌, ◌≤◌, ◌<◌, ℕ, List as Seq, [], length, take, drop, IsTrue, ◌↔◌, position, IfSome, IfOk, MatchResult};
 ghost use Rattle.std.specs.List.{position_or_len};
-ghost use Rattle.desk.specs.Forms.{is_blank, is_of_word, from_word, first_word, after_word, Reads, word_at, rest_of, end_at};
+ghost use Rattle.desk.specs.Forms.{is_blank, is_of_word, from_word, first_word, after_word, Reads, word_at, number_at, size_at, rest_of, end_at};
 
 use records::LineRefusal;
-use site_text::Bytes;
+use site_text::{Bytes, read_number_within, read_size};
 use std::alloc::Global;
 use std::marker::Model;
 
@@ -111,6 +111,35 @@ impl<'a> Words<'a> {
             return Err(LineRefusal::BadWord(number));
         }
         copied(alloc, word)
+    }
+
+    /// The next word, which has this number, as a number of 1 to `digits` digits from `low` to `high`.
+    #[tactic(auto, unfolding(crate::specs::Forms::number_at))]
+    pub fn number(
+        &mut self,
+        number: u32,
+        digits: usize,
+        low: u64,
+        high: u64,
+    ) -> Result<u64, LineRefusal>
+        ensures value { Reads result self.new (number_at digits low high number self.old) }
+        ensures range { IfOk result (λ n. (low ≤ n) × (n ≤ high)) }
+    {
+        match read_number_within(digits, low, high, self.next()) {
+            Some(value) => Ok(value),
+            None => Err(LineRefusal::BadWord(number)),
+        }
+    }
+
+    /// The next word, which has this number, as a size below 2^50.
+    #[tactic(auto, unfolding(crate::specs::Forms::size_at))]
+    pub fn size(&mut self, number: u32) -> Result<u64, LineRefusal>
+        ensures { Reads result self.new (size_at number self.old) }
+    {
+        match read_size(self.next()) {
+            Ok(size) => Ok(size),
+            Err(_) => Err(LineRefusal::BadWord(number)),
+        }
     }
 
     /// No word is left for this number.

@@ -1,14 +1,37 @@
--- What stands before a put is recorded.
-use Rattle.std.specs.Prelude.{◌≡◌, ℕ, List, length, None}
+-- What stands before a step is recorded.
+use Rattle.std.specs.Prelude.{◌≡◌, ℕ, Bool, true, IsTrue, Some, List}
+use Rattle.bank.specs.View.{View}
 use Rattle.records.specs.Written.{written}
-use Rattle.site_history.specs.Site.{Fields}
-use Rattle.site_history.specs.Answers.{put_rule, put_made, put_for}
+use Rattle.site_history.specs.Steps.{HistoryStep, IsLegal, HasBytes}
+use Rattle.site_history.specs.Histories.{after}
+use Rattle.site_history.specs.Worlds.{World, at}
+use Rattle.site_history.specs.Pinned.{StandInAll, put_extents}
 use Rattle.engine.specs.declared.kept.Engine.{Engine}
-use Rattle.engine.specs.declared.put.PutFields.{PutFields}
-use Rattle.engine.specs.Fields.{put_of}
+use Rattle.engine.specs.StandsFor.{StandsFor}
 
--- no rule refuses the put, and its step's written form is in the engine's buffer
-pub record IsReady {B P : Type 0} (engine : Engine B P) (fields : Fields) (path owner group : List ℕ) (put : PutFields) (bytes : List ℕ) : Type 0 where
-  pub admitted : put_rule fields path owner group (length bytes) ≡ None
-  pub stored : put_of put ≡ put_for fields path owner group (length bytes)
-  pub written_form : engine.payload.items ≡ written (put_made fields engine.clock path owner group (length bytes))
+-- The engine stands for a history with nothing open. The step may come behind it, at the clock's moment; its written form is in
+-- the buffer, and where the store tells its content the bytes that it stores stand in whatever a crash leaves.
+pub record IsReady {B P : Type 0} (told : Bool) (view : B → View) (engine : Engine B P) (history : List HistoryStep) (made : HistoryStep) : Type 0 where
+  pub stands : StandsFor told view engine (at history engine.clock)
+  pub legal : IsLegal (after history).fields made.step
+  pub bytes : HasBytes made
+  pub form : engine.payload.items ≡ written made.step
+  pub moment : made.step.moment ≡ engine.clock
+  pub stored : IsTrue told → StandInAll (view engine.bank) (put_extents made)
+
+-- a world that owes a step
+abbrev pub owing : List HistoryStep → ℕ → HistoryStep → World
+owing history clock made = record { history = history; clock = clock; due = true; owed = Some made }
+
+-- The engine is as it was but for its buffer and the room for files.
+pub record IsUnmoved {B P : Type 0} (old new : Engine B P) : Type 0 where
+  pub bank : new.bank ≡ old.bank
+  pub patterns : new.patterns ≡ old.patterns
+  pub journal : new.journal ≡ old.journal
+  pub files : new.site.files.list ≡ old.site.files.list
+  pub next_inode : new.site.next_inode ≡ old.site.next_inode
+  pub moment : new.site.moment ≡ old.site.moment
+  pub space : new.site.space ≡ old.site.space
+  pub steps : new.steps ≡ old.steps
+  pub clock : new.clock ≡ old.clock
+  pub due : new.due ≡ old.due

@@ -1,23 +1,24 @@
 //! Events over a store.
 
-ghost use Rattle.std.specs.Prelude.{◌≡◌, ◌≢◌, ◌≤◌, ◌<◌, ◌^◌, ℕ, [], false, true, length, IfOk, IfErr, MatchResult, IsTrue, OnOk};
+ghost use Rattle.std.specs.Prelude.{◌≡◌, ◌≢◌, ◌≤◌, ◌<◌, ◌^◌, ℕ, [], false, true, length, IfOk, IfErr, MatchResult, IsTrue, OnOk, OnErr, Bool, List};
 ghost use Rattle.site_text.specs.Causes.{Rose};
-ghost use Rattle.site_history.specs.Worlds.{World, Turn, new_world};
-ghost use Rattle.site_history.specs.Site.{first_fields};
-ghost use Rattle.engine.specs.StandsFor.{StandsFor, Keeps};
+ghost use Rattle.bank.specs.Content.{Content};
+ghost use Rattle.bank.specs.View.{OnlyRead};
+ghost use Rattle.site_history.specs.Steps.{HistoryStep};
+ghost use Rattle.site_history.specs.Worlds.{World, Turn, EventTurn, at, moment_of, new_world, IsFound, RefusesReopening};
+ghost use Rattle.site_history.specs.Images.{IsSettled};
+ghost use Rattle.site_history.specs.Journals.{HoldsHistory};
+ghost use Rattle.engine.specs.StandsFor.{StandsFor, Moves, IsRecovered, StaysFor};
+ghost use Rattle.engine.specs.Journals.{TellsJournal, RepliesJournal};
 
-use crate::kept::{Engine, SiteFiles};
+use crate::kept::Engine;
+use crate::reopen::read_site;
 use bank::Bank;
-use cache_space::CacheSpace;
-use journal::{Journal, JournalRefusal};
 use records::{Event, LineRefusal, Reply};
-use std::alloc::{AllocError, Global};
+use std::alloc::Global;
 
 /// The last moment, in seconds.
 const LAST_MOMENT: u64 = (1 << 40) - 1;
-
-/// How many blocks the cache has at first: 64 MiB.
-const FIRST_BLOCKS: u32 = 16_384;
 
 /// The longest payload of a record, in bytes.
 const PAYLOAD_MAX: usize = 1_048_576;
@@ -41,81 +42,48 @@ pub struct Shut<B, P> {
     pub patterns: P,
 }
 
-// The files of a site that has none.
-fn no_files(alloc: Global) -> Result<SiteFiles, AllocError>
-    ensures { IfOk result (λ site. Keeps site first_fields) }
-{
-    Ok(SiteFiles {
-        files: Vec::new(alloc),
-        next_inode: 1,
-        moment: 0,
-        space: CacheSpace::new(alloc, FIRST_BLOCKS)?,
-    })
-}
-
-// Reads the journal, which is to hold no record.
-fn open_journal<B: Bank>(alloc: Global, bank: &mut B, size: u64) -> Result<Journal, ShutCause>
-    requires { size ≤ 268435456 }
-    ensures empty { IfOk result (λ journal. (journal.place ≡ 0) × (journal.count ≡ 0) × (journal.size ≡ size)) }
-    ensures closed { IsTrue B.tells → 0 < size → OnOk result ((B.view bank.old).content 0 0 ≢ 1) }
-    ensures open_gate { IfErr result (λ cause. (place : ℕ) → cause ≡ ShutCause.BadJournal place → (place ≡ 0) × (IsTrue B.tells → (B.view bank.old).content 0 0 ≡ 1)) }
-    ensures fault { IfErr result (λ cause. cause ≡ ShutCause.BankFault → Rose (B.faults bank.old) (B.faults bank.new)) }
-    ensures later { B.faults bank.old ≤ B.faults bank.new }
-    ensures moment { IsTrue B.tells → (B.view bank.old).moment ≤ (B.view bank.new).moment }
-{
-    match Journal::reopen(alloc, bank, size) {
-        Ok((journal, payloads)) => {
-            if payloads.is_empty() {
-                Ok(journal)
-            } else {
-                Err(ShutCause::BadJournal(0))
-            }
-        }
-        Err(JournalRefusal::BankFault) => Err(ShutCause::BankFault),
-        Err(JournalRefusal::BadRecord { .. }) => Err(ShutCause::BadJournal(0)),
-        Err(JournalRefusal::NoMemory) => Err(ShutCause::NoMemory),
-    }
-}
-
 impl<B: Bank, P: Drop> Engine<B, P> {
-    /// Opens a store whose journal holds no record. `journal_bytes` is the size of the journal's area, at most 268,435,456.
+    /// Reopens a site from its journal, which stands in the first `journal_bytes` bytes of area 0, at most 268,435,456. It
+    /// writes nothing.
     pub fn reopen(
         alloc: Global,
         mut bank: B,
         patterns: P,
         journal_bytes: u64,
     ) -> Result<Engine<B, P>, Shut<B, P>>
-        requires some { 0 < journal_bytes }
-        requires small { journal_bytes ≤ 268435456 }
-        ensures stands { IfOk result (λ engine. StandsFor engine (new_world [])) }
+        requires { journal_bytes ≤ 268435456 }
+        // It stands for the history for which the store is settled; for that of the journal where the store tells nothing.
+        ensures stands { (told : Bool) → (IsTrue told → IsTrue B.tells) → (before : List HistoryStep) → (IsTrue told → IsSettled journal_bytes (B.view bank) before)
+            → IfOk result (λ engine. (found : List HistoryStep) × IsFound told before found × StandsFor told B.view engine (new_world found)) }
+        // Whatever the store is settled for, it stands for the history that the journal holds.
+        ensures held { IfOk result (λ engine. (found : List HistoryStep) × StandsFor false B.view engine (new_world found) × (IsTrue B.tells → HoldsHistory journal_bytes ((B.view bank).content 0) found)) }
         ensures ready { IfOk result (λ engine. engine.due ≡ false) }
         ensures size { IfOk result (λ engine. engine.journal.size ≡ journal_bytes) }
-        // The gate at place 0 was read as closed, or it was read as open.
-        ensures closed { IsTrue B.tells → IfOk result (λ engine. (B.view bank).content 0 0 ≢ 1) }
-        ensures open_gate { IfErr result (λ shut. (place : ℕ) → shut.cause ≡ ShutCause.BadJournal place → (place ≡ 0) × (IsTrue B.tells → (B.view bank).content 0 0 ≡ 1)) }
+        ensures unchanged { IsTrue B.tells → MatchResult result (λ engine. OnlyRead (B.view bank) (B.view engine.bank)) (λ shut. OnlyRead (B.view bank) (B.view shut.bank)) }
+        // The journal holds a history, or it is bad at a place.
+        ensures journal { IsTrue B.tells → IfOk result (λ engine. (found : List HistoryStep) × HoldsHistory journal_bytes ((B.view bank).content 0) found) }
+        ensures bad_journal { IsTrue B.tells → IfErr result (λ shut. TellsJournal journal_bytes ((B.view bank).content 0) shut.cause) }
         ensures fault { IfErr result (λ shut. shut.cause ≡ ShutCause.BankFault → Rose (B.faults bank) (B.faults shut.bank)) }
         ensures later { MatchResult result (λ engine. B.faults bank ≤ B.faults engine.bank) (λ shut. B.faults bank ≤ B.faults shut.bank) }
         ensures patterns { MatchResult result (λ engine. engine.patterns ≡ patterns) (λ shut. shut.patterns ≡ patterns) }
-        ensures moment { IsTrue B.tells → IfOk result (λ engine. (B.view bank).moment ≤ (B.view engine.bank).moment) }
     {
-        let (Ok(site), Ok(payload)) = (no_files(alloc), Vec::with_capacity(alloc, PAYLOAD_MAX))
-        else {
+        let Ok(payload) = Vec::with_capacity(alloc, PAYLOAD_MAX) else {
             return Err(Shut {
                 cause: ShutCause::NoMemory,
                 bank,
                 patterns,
             });
         };
-        match open_journal(alloc, &mut bank, journal_bytes) {
-            Ok(journal) => Ok(Engine {
+        match read_site(alloc, &mut bank, journal_bytes) {
+            Ok((journal, site)) => Ok(Engine {
                 alloc,
                 bank,
                 patterns,
+                steps: journal.count(),
+                clock: site.moment,
                 journal,
                 site,
-                steps: 0,
                 payload,
-                clock: 0,
                 due: false,
             }),
             Err(cause) => Err(Shut {
@@ -126,19 +94,87 @@ impl<B: Bank, P: Drop> Engine<B, P> {
         }
     }
 
-    /// One event. Its moment is the greater of the clock and the lesser of `now` and 2^40 - 1.
+    // Reads the site again, which is due, and keeps it. On an error nothing is changed but the store.
+    fn recover(&mut self) -> Result<(), Reply>
+        ensures recovered { (told : Bool) → (IsTrue told → IsTrue B.tells) → (w : World) → StandsFor told B.view self.old w → self.old.due ≡ true
+            → MatchResult result (λ _. IsRecovered told B.view self.old self.new w) (λ reply. RefusesReopening told reply × StaysFor told B.view self.old self.new w) }
+        ensures ok { OnOk result (self.new.due ≡ false) }
+        ensures err { OnErr result (self.new ≡ record self.old { bank = self.new.bank }) }
+        ensures size { self.new.journal.size ≡ self.old.journal.size }
+        ensures patterns { self.new.patterns ≡ self.old.patterns }
+        ensures unchanged { IsTrue B.tells → OnlyRead (B.view self.old.bank) (B.view self.new.bank) }
+        ensures bad_journal { IsTrue B.tells → IfErr result (RepliesJournal self.old.journal.size ((B.view self.new.bank).content 0)) }
+        ensures fault { IfErr result (λ reply. reply ≡ Reply.BankFault → Rose (B.faults self.old.bank) (B.faults self.new.bank)) }
+        ensures later { B.faults self.old.bank ≤ B.faults self.new.bank }
+    {
+        match read_site(self.alloc, &mut self.bank, self.journal.size()) {
+            Ok((journal, site)) => {
+                self.steps = journal.count();
+                self.clock = self.clock.max(site.moment);
+                self.journal = journal;
+                self.site = site;
+                self.due = false;
+                Ok(())
+            }
+            Err(ShutCause::BankFault) => Err(Reply::BankFault),
+            Err(ShutCause::BadJournal(place)) => Err(Reply::BadJournal(place)),
+            Err(ShutCause::NoMemory) => Err(Reply::NoMemory),
+        }
+    }
+
+    /// One event. Its moment is the greater of the clock and the lesser of `now` and 2^40 - 1. Where a reopening is due it
+    /// comes first.
     pub fn event(&mut self, event: &Event, now: u64) -> Reply
-        requires { self.old.due ≡ false }
-        ensures turn { (w : World) → StandsFor self.old w
-            → (w' : World) × Turn self.old.journal.size w event.now now (B.last_fault self.new.bank) result w' × StandsFor self.new w' }
+        ensures turn { (told : Bool) → (IsTrue told → IsTrue B.tells) → (w : World) → StandsFor told B.view self.old w
+            → (w' : World) × EventTurn self.old.journal.size told w event.now now (B.last_fault self.new.bank) result w' × Moves told B.view self.old self.new w w' }
         ensures fault { result ≡ Reply.BankFault → Rose (B.faults self.old.bank) (B.faults self.new.bank) }
         ensures later { B.faults self.old.bank ≤ B.faults self.new.bank }
-        ensures open { result ≢ Reply.BankFault → self.new.due ≡ false }
+        ensures bad_journal { IsTrue B.tells → RepliesJournal self.old.journal.size ((B.view self.new.bank).content 0) result }
+        ensures ready { self.old.due ≡ false → result ≢ Reply.BankFault → self.new.due ≡ false }
+        ensures size { self.new.journal.size ≡ self.old.journal.size }
+        ensures patterns { self.new.patterns ≡ self.old.patterns }
+        ensures moment { IsTrue B.tells → (B.view self.old.bank).moment ≤ (B.view self.new.bank).moment }
+    {
+        if self.due {
+            match self.recover() {
+                Ok(()) => self.serve_at(event, now),
+                Err(reply) => reply,
+            }
+        } else {
+            self.serve_at(event, now)
+        }
+    }
+
+    // One event, where no reopening is due.
+    fn serve_at(&mut self, event: &Event, now: u64) -> Reply
+        requires { self.old.due ≡ false }
+        ensures turn { (told : Bool) → (IsTrue told → IsTrue B.tells) → (history : List HistoryStep) (clock : ℕ) → StandsFor told B.view self.old (at history clock)
+            → (w : World) × Turn self.old.journal.size told history event.now (moment_of clock now) (B.last_fault self.new.bank) result w × Moves told B.view self.old self.new (at history clock) w }
+        ensures fault { result ≡ Reply.BankFault → Rose (B.faults self.old.bank) (B.faults self.new.bank) }
+        ensures later { B.faults self.old.bank ≤ B.faults self.new.bank }
+        ensures ready { result ≢ Reply.BankFault → self.new.due ≡ false }
+        ensures journal { (size : ℕ) (c : Content) → RepliesJournal size c result }
         ensures size { self.new.journal.size ≡ self.old.journal.size }
         ensures patterns { self.new.patterns ≡ self.old.patterns }
         ensures moment { IsTrue B.tells → (B.view self.old.bank).moment ≤ (B.view self.new.bank).moment }
     {
         self.clock = self.clock.max(now.min(LAST_MOMENT));
+        self.serve(event)
+    }
+
+    // One event, whose moment is the clock.
+    fn serve(&mut self, event: &Event) -> Reply
+        requires { self.old.due ≡ false }
+        ensures turn { (told : Bool) → (IsTrue told → IsTrue B.tells) → (history : List HistoryStep) → StandsFor told B.view self.old (at history self.old.clock)
+            → (w : World) × Turn self.old.journal.size told history event.now self.old.clock (B.last_fault self.new.bank) result w × Moves told B.view self.old self.new (at history self.old.clock) w }
+        ensures fault { result ≡ Reply.BankFault → Rose (B.faults self.old.bank) (B.faults self.new.bank) }
+        ensures later { B.faults self.old.bank ≤ B.faults self.new.bank }
+        ensures ready { result ≢ Reply.BankFault → self.new.due ≡ false }
+        ensures journal { (size : ℕ) (c : Content) → RepliesJournal size c result }
+        ensures size { self.new.journal.size ≡ self.old.journal.size }
+        ensures patterns { self.new.patterns ≡ self.old.patterns }
+        ensures moment { IsTrue B.tells → (B.view self.old.bank).moment ≤ (B.view self.new.bank).moment }
+    {
         match event {
             Event::Put {
                 path,
@@ -151,13 +187,15 @@ impl<B: Bank, P: Drop> Engine<B, P> {
                 group.as_slice(),
                 bytes.as_slice(),
             ),
+            Event::Read { path, upto } => self.read(path.as_slice(), *upto),
+            Event::Remove { path } => self.remove(path.as_slice()),
             _ => Reply::Line(LineRefusal::NotACommand),
         }
     }
 
     /// How many steps were acknowledged.
     pub fn steps(&self) -> u64
-        ensures { (w : World) → StandsFor self.now w → result ≡ length w.history }
+        ensures { (told : Bool) (w : World) → StandsFor told B.view self.now w → result ≡ length w.history }
     {
         self.steps
     }

@@ -1,81 +1,131 @@
 //! The files of a site, without their bytes.
 
-ghost use Rattle.std.specs.Prelude.{◌≡◌, ◌+◌, ◌<◌, ◌≤◌, ◌^◌, ◌++◌, [], ◌∷◌, None, Some, Option, is_some, length, IfNone, IsTrue, false};
-ghost use Rattle.std.specs.List.{list_any};
+ghost use Rattle.std.specs.Prelude.{◌≡◌, ◌==◌, ◌<◌, ◌≤◌, ◌+◌, ◌^◌, ◌++◌, [], ◌∷◌, ℕ, length, remove, slice_get, slice_set, slice_index_or, OnOk, Some};
+ghost use Rattle.std.specs.List.{position};
 ghost use Rattle.std.specs.Str.{bytes_eq};
-ghost use Rattle.site_history.specs.Site.{Fields, file_at};
-ghost use Rattle.site_history.specs.Answers.{put_rule, is_full, lacks_space};
-ghost use Rattle.records.specs.Paths.{is_legal_path, is_legal_name};
-ghost use Rattle.engine.specs.StandsFor.{Keeps};
+ghost use Rattle.records.specs.Ranges.{IsInode};
+ghost use Rattle.site_history.specs.Steps.{stored_file};
+ghost use Rattle.engine.specs.Fields.{put_of};
+ghost use Rattle.records.specs.declared.file.FileRec.{FileRec as Rec};
 
-use crate::kept::SiteFiles;
-use cache_space::blocks_needed;
-use records::{FileRec, Rule, is_legal_name, is_legal_path};
+use crate::stored::{PutFields, store_over};
+use records::{FileRec, Run};
+use site_text::List;
+use std::alloc::{AllocError, Global};
+use std::marker::Model;
 
-/// The longest file, in bytes.
-const FILE_MAX: usize = 16_777_216;
-
-/// How many files there may be.
-const FILES_MAX: usize = 16_384;
-
-/// The greatest inode.
-const INODE_MAX: u32 = 4_294_967_294;
-
-// Whether one of the files has this path.
-fn any_has(files: &[FileRec], path: &[u8]) -> bool
-    ensures { result ≡ list_any (λ file. bytes_eq file.path path.now) files.now }
-{
-    files.iter().any(|file| file.path.as_slice() == path)
+/// The files of a site, without their bytes, by rising inode. Contracts see them as a list, and for how many more there is
+/// room.
+#[derive(Drop)]
+pub struct Files {
+    items: Vec<FileRec>,
 }
 
-// Whether a file of this path is there.
-fn has_path(files: &[FileRec], path: &[u8]) -> bool
-    ensures { result ≡ is_some (file_at path.now files.now) }
-{
-    any_has(files, path)
+impl Model for Files {
+    ghost use Rattle.std.specs.Prelude.{◌-◌, vec_len, vec_capacity};
+    ghost use Rattle.engine.specs.FileList.{FileList};
+    ghost use Rattle.engine.specs.Inside.{HaveInodes};
+
+    ghost Value = { FileList };
+
+    ghost view = { λ files. record { list = files.items.items; room = vec_capacity files.items - vec_len files.items } };
+
+    ghost invariant = { HaveInodes };
 }
 
-impl SiteFiles {
-    // Whether a further file does not fit.
-    fn is_full(&self) -> bool
-        ensures inode { result ≡ false → self.now.next_inode ≤ 4294967294 }
-        ensures full { (fields : Fields) → Keeps self.now fields → result ≡ is_full fields }
+impl Files {
+    /// No file. It takes no memory.
+    pub fn new(alloc: Global) -> Self
+        ensures { result.list ≡ [] }
     {
-        self.files.len() >= FILES_MAX || self.next_inode > INODE_MAX
+        Files {
+            items: Vec::new(alloc),
+        }
     }
 
-    // Whether fewer blocks are free than so many bytes need.
-    fn lacks_space(&self, size: u32) -> bool
-        ensures { (fields : Fields) → Keeps self.now fields → result ≡ lacks_space fields size }
+    /// How many files there are.
+    pub fn len(&self) -> usize
+        ensures { result ≡ length self.now.list }
     {
-        self.space.free() < blocks_needed(size)
+        self.items.len()
     }
 
-    /// The first rule that refuses a put of so many bytes.
-    pub fn put_rule(&self, path: &[u8], owner: &[u8], group: &[u8], size: usize) -> Option<Rule>
-        ensures small { IfNone result (size ≤ 16777216) }
-        ensures inode { IfNone result (self.now.next_inode ≤ 4294967294) }
-        ensures legal { IfNone result (IsTrue (is_legal_path path.now) × IsTrue (is_legal_name owner.now) × IsTrue (is_legal_name group.now)) }
-        ensures rule { (fields : Fields) → Keeps self.now fields → result ≡ put_rule fields path.now owner.now group.now size }
+    /// The files.
+    pub fn as_slice(&self) -> &[FileRec]
+        ensures { result.now ≡ self.now.list }
     {
-        if !is_legal_path(path) {
-            return Some(Rule::BadPath);
+        self.items.as_slice()
+    }
+
+    /// The index of the first file of a path.
+    pub fn find(&self, path: &[u8]) -> Option<usize>
+        ensures { result ≡ position (λ (file : Rec). bytes_eq file.path path.now) self.now.list }
+    {
+        self.items
+            .iter()
+            .position(|file| file.path.as_slice() == path)
+    }
+
+    /// The index of the first file of an inode.
+    pub fn find_inode(&self, inode: u32) -> Option<usize>
+        ensures { result ≡ position (λ (file : Rec). file.inode == inode) self.now.list }
+    {
+        self.items.iter().position(|file| file.inode == inode)
+    }
+
+    /// The inode of the file at an index.
+    pub fn inode_at(&self, index: usize) -> u32
+        requires { index < length self.now.list }
+        ensures inode { (file : Rec) → slice_get self.now.list index ≡ Some file → result ≡ file.inode }
+        ensures range { IsInode result }
+    {
+        self.items[index].inode
+    }
+
+    /// Makes room for a further file.
+    pub fn reserve(&mut self) -> Result<(), AllocError>
+        ensures list { self.new.list ≡ self.old.list }
+        ensures room { OnOk result (0 < self.new.room) }
+    {
+        self.items.reserve(1)
+    }
+
+    /// Adds a file, for which there is room, behind the others.
+    pub fn push(&mut self, file: FileRec)
+        requires room { 0 < self.old.room }
+        requires inode { IsInode file.inode }
+        ensures { self.new.list ≡ self.old.list ++ file ∷ [] }
+    {
+        if self.items.push(file).is_err() {
+            unreachable!();
         }
-        if !(is_legal_name(owner) && is_legal_name(group)) {
-            return Some(Rule::BadAttribute);
-        }
-        if has_path(&self.files, path) {
-            return Some(Rule::Exists);
-        }
-        if size > FILE_MAX {
-            return Some(Rule::TooLarge);
-        }
-        if self.is_full() {
-            return Some(Rule::TooMany);
-        }
-        if self.lacks_space(size as u32) {
-            return Some(Rule::NoSpace);
-        }
-        None
+    }
+
+    /// Puts what a put stores over the file at an index, whose runs it gives.
+    pub fn store_at(&mut self, index: usize, moment: u64, put: PutFields) -> List<Run>
+        requires { index < length self.old.list }
+        ensures list { (file : Rec) → slice_get self.old.list index ≡ Some file → file.generation + 1 < 2 ^ 64
+            → self.new.list ≡ slice_set self.old.list index (stored_file (Some file) moment (put_of put)) }
+        ensures runs { (file : Rec) → slice_get self.old.list index ≡ Some file → result ≡ file.runs }
+    {
+        store_over(&mut self.items[index], moment, put)
+    }
+
+    /// Sets the moment of access of the file at an index.
+    pub fn access_at(&mut self, index: usize, moment: u64)
+        requires { index < length self.old.list }
+        ensures { (file : Rec) → slice_get self.old.list index ≡ Some file
+            → self.new.list ≡ slice_set self.old.list index (record file { accessed = moment }) }
+    {
+        self.items[index].accessed = moment;
+    }
+
+    /// Takes out the file at an index.
+    pub fn remove(&mut self, index: usize) -> FileRec
+        requires { index < length self.old.list }
+        ensures list { self.new.list ≡ remove self.old.list index }
+        ensures old { slice_get self.old.list index ≡ Some result }
+    {
+        self.items.remove(index)
     }
 }

@@ -2,22 +2,23 @@
 
 ghost use Rattle.std.specs.Prelude.{◌≤◌, ◌<◌, ◌^◌};
 
+use crate::files::Files;
 use cache_space::CacheSpace;
 use journal::Journal;
-use records::FileRec;
 use std::alloc::Global;
 
 /// The files of a site without their bytes, and the blocks that they hold.
 #[derive(Drop)]
 pub struct SiteFiles {
     /// By rising inode.
-    pub files: Vec<FileRec>,
+    pub files: Files,
     /// The inode of the next new file, 1 to 4,294,967,295.
     pub next_inode: u32,
     /// The moment of the last step, in seconds.
     pub moment: u64,
     pub space: CacheSpace,
     pub ghost from_one: { 1 ≤ next_inode },
+    pub ghost range: { moment < 2 ^ 40 },
 }
 
 /// A site over a store.

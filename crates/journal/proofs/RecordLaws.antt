@@ -82,7 +82,7 @@ no_record c p x size (inl shut) h = shut h.gate
 no_record c p x size (inr past) h = omega (arith, past, h.within)
 
 -- nor where an open gate has a length that no record there has
-not_bad_record : (c : Content) (p n : ℕ) (x : List ℕ) (size : ℕ) → n < 2 ^ 32 → Stands c (p + 1) (to_le_bytes w32 n) → IsBadLength p size n → IsRecord c p x size → ⊥
+pub not_bad_record : (c : Content) (p n : ℕ) (x : List ℕ) (size : ℕ) → n < 2 ^ 32 → Stands c (p + 1) (to_le_bytes w32 n) → IsBadLength p size n → IsRecord c p x size → ⊥
 not_bad_record c p n x size lt stands bad h = by_case (one_number c (p + 1) n (length x) lt (small x h.bounded) stands (framed_length c (p + 1) x h.framed)) bad
   where
     by_case : n ≡ length x → IsBadLength p size n → ⊥

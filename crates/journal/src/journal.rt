@@ -87,6 +87,21 @@ impl Journal {
         Ok((journal, payloads))
     }
 
+    /// The bytes of its area, at most 268,435,456.
+    pub fn size(&self) -> u64
+        ensures size { result ≡ self.now.size }
+        ensures bounded { result ≤ AREA_MAX }
+    {
+        self.size
+    }
+
+    /// How many records there are.
+    pub fn count(&self) -> u64
+        ensures { result ≡ self.now.count }
+    {
+        self.count
+    }
+
     /// Whether a payload of so many bytes has room, with a closed gate behind it.
     pub fn has_room(&self, length: usize) -> bool
         ensures { IsTrue result ↔ (self.now.place + 6 + length ≤ self.now.size) }

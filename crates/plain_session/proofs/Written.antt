@@ -10,50 +10,51 @@ use Rattle.desk.specs.Asks.{is_skipped, asked_of}
 use Rattle.desk.specs.Texts.{text_of}
 use Rattle.input.specs.declared.plain.RawLine.{RawLine}
 use Rattle.input.specs.declared.plain.RawLine.TheVariants.{Kept}
-use Rattle.site_history.specs.Worlds.{World}
+use Rattle.session.specs.Rounds.{Stage}
 use Rattle.session.specs.Asking.{Request, requests_of}
 use Rattle.session.specs.Machine.{machine_tells, output_of}
 use Rattle.session.specs.Outcomes.{journal_bytes}
-use Rattle.plain_session.specs.declared.world.PlainWorld.{PlainWorld}
-use Rattle.plain_session.specs.Plain.{Shows, Tells}
-use Rattle.plain_session.specs.Requests.{world_after, Wrote}
+use Rattle.plain_session.specs.declared.stage.PlainStage.{PlainStage}
+use Rattle.plain_session.specs.Stage.{ShowsStage, Tells, stage_after, Wrote}
 
-output_joined : (w : World) (requests more : List Request)
-    → output_of journal_bytes 0 w (requests ++ more) ≡ output_of journal_bytes 0 w requests ++ output_of journal_bytes 0 (world_after w requests) more
-output_joined w [] more = refl
-output_joined w (r ∷ requests) more =
-    ap (λ (l : List ℕ). text_of (machine_tells journal_bytes 0 w r).reply ++ l) (output_joined (machine_tells journal_bytes 0 w r).after requests more)
-    ∙ sym (append_assoc (text_of (machine_tells journal_bytes 0 w r).reply) (output_of journal_bytes 0 (machine_tells journal_bytes 0 w r).after requests)
-    (output_of journal_bytes 0 (world_after (machine_tells journal_bytes 0 w r).after requests) more))
+-- what is written for requests and for more is what is written for each, joined
+output_joined : (stage : Stage) (requests more : List Request)
+    → output_of journal_bytes stage (requests ++ more) ≡ output_of journal_bytes stage requests ++ output_of journal_bytes (stage_after stage requests) more
+output_joined stage [] more = refl
+output_joined stage (r ∷ requests) more =
+    ap (λ (l : List ℕ). text_of (machine_tells journal_bytes stage r).reply ++ l) (output_joined (machine_tells journal_bytes stage r).after requests more)
+    ∙ sym (append_assoc (text_of (machine_tells journal_bytes stage r).reply) (output_of journal_bytes (machine_tells journal_bytes stage r).after requests)
+    (output_of journal_bytes (stage_after (machine_tells journal_bytes stage r).after requests) more))
 
-after_joined : (w : World) (requests more : List Request) → world_after w (requests ++ more) ≡ world_after (world_after w requests) more
-after_joined w [] more = refl
-after_joined w (r ∷ requests) more = after_joined (machine_tells journal_bytes 0 w r).after requests more
+-- the stage after requests and more
+after_joined : (stage : Stage) (requests more : List Request) → stage_after stage (requests ++ more) ≡ stage_after (stage_after stage requests) more
+after_joined stage [] more = refl
+after_joined stage (r ∷ requests) more = after_joined (machine_tells journal_bytes stage r).after requests more
 
 -- more was written
-pub joined : (before mid now : List ℕ) (w : World) (requests more : List Request) (plain later : PlainWorld)
-    → Wrote before mid w requests plain → Wrote mid now (world_after w requests) more later → Wrote before now w (requests ++ more) later
-joined before mid now w requests more plain later a b = record {
-  text = b.text ∙ ap (λ (l : List ℕ). l ++ output_of journal_bytes 0 (world_after w requests) more) a.text
-      ∙ append_assoc before (output_of journal_bytes 0 w requests) (output_of journal_bytes 0 (world_after w requests) more)
-      ∙ ap (λ (l : List ℕ). before ++ l) (sym (output_joined w requests more));
-  world = subst (λ (x : World). Shows later x) (sym (after_joined w requests more)) b.world;
+pub joined : (before mid now : List ℕ) (stage : Stage) (requests more : List Request) (plain later : PlainStage)
+    → Wrote before mid stage requests plain → Wrote mid now (stage_after stage requests) more later → Wrote before now stage (requests ++ more) later
+joined before mid now stage requests more plain later a b = record {
+  text = b.text ∙ ap (λ (l : List ℕ). l ++ output_of journal_bytes (stage_after stage requests) more) a.text
+      ∙ append_assoc before (output_of journal_bytes stage requests) (output_of journal_bytes (stage_after stage requests) more)
+      ∙ ap (λ (l : List ℕ). before ++ l) (sym (output_joined stage requests more));
+  stage_shown = subst (λ (x : Stage). ShowsStage later x) (sym (after_joined stage requests more)) b.stage_shown;
 }
 
 -- nothing was asked
-pub nothing : (before : List ℕ) (w : World) (plain : PlainWorld) → Shows plain w → Wrote before before w [] plain
-nothing before w plain s = record { text = sym (append-nil before); world = s }
+pub nothing : (before : List ℕ) (stage : Stage) (plain : PlainStage) → ShowsStage plain stage → Wrote before before stage [] plain
+nothing before stage plain s = record { text = sym (append-nil before); stage_shown = s }
 
 -- one thing was asked, and its answer was written
-pub one : (before now : List ℕ) (w : World) (request : Request) (reply : Reply) (plain : PlainWorld)
-    → Tells (machine_tells journal_bytes 0 w request) reply plain → now ≡ before ++ text_of reply → Wrote before now w (request ∷ []) plain
-one before now w request reply plain t e = record {
+pub one : (before now : List ℕ) (stage : Stage) (request : Request) (reply : Reply) (plain : PlainStage)
+    → Tells (machine_tells journal_bytes stage request) reply plain → now ≡ before ++ text_of reply → Wrote before now stage (request ∷ []) plain
+one before now stage request reply plain t e = record {
   text = e ∙ ap (λ (r : Reply). before ++ text_of r) t.reply_told
-      ∙ ap (λ (l : List ℕ). before ++ l) (sym (append-nil (text_of (machine_tells journal_bytes 0 w request).reply)));
-  world = t.world;
+      ∙ ap (λ (l : List ℕ). before ++ l) (sym (append-nil (text_of (machine_tells journal_bytes stage request).reply)));
+  stage_shown = t.stage;
 }
 
--- what a kept line asks
+-- a kept line asks nothing, or one thing
 pub skips : (line : List ℕ) → is_skipped line ≡ true → requests_of (Kept line) ≡ []
 skips line e = ap (λ (b : Bool). cond b [] (asked_of line ∷ [])) e
 
@@ -61,9 +62,9 @@ pub asks : (line : List ℕ) → is_skipped line ≡ false → requests_of (Kept
 asks line e = ap (λ (b : Bool). cond b [] (asked_of line ∷ [])) e
 
 -- a line that is no command
-pub tells_line : (w : World) (request : Request) (refusal : LineRefusal) (plain : PlainWorld) → request ≡ Err refusal → Shows plain w
-    → Tells (machine_tells journal_bytes 0 w request) (Line refusal) plain
-tells_line w request refusal plain e s = subst (λ (r : Request). Tells (machine_tells journal_bytes 0 w r) (Line refusal) plain) (sym e) (record { reply_told = refl; world = s })
+pub tells_line : (stage : Stage) (request : Request) (refusal : LineRefusal) (plain : PlainStage) → request ≡ Err refusal → ShowsStage plain stage
+    → Tells (machine_tells journal_bytes stage request) (Line refusal) plain
+tells_line stage request refusal plain e s = subst (λ (r : Request). Tells (machine_tells journal_bytes stage r) (Line refusal) plain) (sym e) (record { reply_told = refl; stage = s })
 
 -- what one more line asks
 pub taken_more : (lines : List RawLine) (i : ℕ) (line : RawLine) → line ≡ get_or lines i line → i < length lines

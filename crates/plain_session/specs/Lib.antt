@@ -1,2 +1,3 @@
-pub mod Plain
-pub mod Requests
+pub mod Site
+pub mod World
+pub mod Stage

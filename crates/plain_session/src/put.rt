@@ -1,160 +1,195 @@
-//! A put into a plain world.
+//! What a put stores.
 
-ghost use Rattle.std.specs.Prelude.{◌≡◌, ◌+◌, ◌≤◌, ◌++◌, [], ◌∷◌, ℕ, List as Seq, None, length, IfOk, OnOk, OnErr};
-ghost use Rattle.records.specs.declared.event.Event.TheVariants.{Put as PutEvent};
-ghost use Rattle.records.specs.Written.{written, InRange};
-ghost use Rattle.site_history.specs.Answers.{put_rule};
-ghost use Rattle.site_history.specs.Worlds.{World, answer_in};
-ghost use Rattle.session.specs.Machine.{event_told};
-ghost use Rattle.session.specs.Outcomes.{journal_bytes};
-ghost use Rattle.plain_session.specs.Plain.{fields_of, Shows, Tells, file_of, step_of};
+ghost use Rattle.std.specs.Prelude.{◌≡◌, ◌<◌, ◌+◌, ◌^◌, IfOk, IfSome};
+ghost use Rattle.std.specs.Option.{option_copied};
+ghost use Rattle.records.specs.declared.file.FileRec.{FileRec as Rec};
+ghost use Rattle.site_history.specs.Answers.{put_for, put_made};
+ghost use Rattle.site_history.specs.Steps.{stored_file, inode_for, next_after};
+ghost use Rattle.site_history.specs.Site.{file_at, held_runs};
+ghost use Rattle.cache_space.specs.Blocks.{lowest_runs, blocks_for};
+ghost use Rattle.plain_session.specs.Site.{fields_of, CountsOn};
 
-use crate::rule::{free_runs, plain_rule};
-use crate::world::PlainWorld;
-use records::{
-    CopySlot, CopySlots, FileRec, ReleaseKind, Reply, StageKind, Step, StepKind, encode_step,
-};
+use crate::copies::copy_file;
+use crate::files::{file_at, held_runs};
+use crate::site::{PlainPut, PlainSite};
+use cache_space::{blocks_needed, plain_lowest};
+use records::{CopySlots, FileRec, ReleaseKind, Run, StageKind, Step, StepKind};
 use site_text::{Bytes, List};
 use std::alloc::{AllocError, Global};
 
-/// The size of the journal's area, in bytes.
-const JOURNAL_BYTES: u64 = 268_435_456;
+/// The inode of a put: that of the file that is there, or the next one.
+pub fn inode_for(site: &PlainSite, path: &[u8]) -> u32
+    ensures { result ≡ inode_for (fields_of site.now) path.now }
+{
+    match file_at(site.files.as_slice(), path) {
+        Some(file) => file.inode,
+        None => site.next_inode,
+    }
+}
 
-// A new file, whole in the cache.
-fn new_file(
+/// The next inode after a put. Where a file is new, one is used up.
+pub fn next_after(site: &PlainSite, path: &[u8]) -> u32
+    requires { CountsOn (fields_of site.now) path.now }
+    ensures { result ≡ next_after (fields_of site.now) path.now }
+{
+    match file_at(site.files.as_slice(), path) {
+        Some(_) => site.next_inode,
+        None => site.next_inode + 1,
+    }
+}
+
+/// The lowest free blocks for so many bytes; fewer where there are fewer.
+pub fn free_runs(alloc: Global, site: &PlainSite, size: u32) -> Result<List<Run>, AllocError>
+    ensures { IfOk result (λ runs. runs ≡ lowest_runs site.now.blocks (held_runs site.now.files.items) (blocks_for size)) }
+{
+    let held = held_runs(alloc, site.files.as_slice())?;
+    plain_lowest(alloc, site.blocks, held.as_slice(), blocks_needed(size))
+}
+
+/// What a put of so many bytes stores: it takes the lowest free blocks.
+pub fn put_for(
     alloc: Global,
-    world: &PlainWorld,
+    site: &PlainSite,
     path: &[u8],
     owner: &[u8],
     group: &[u8],
     size: u32,
-) -> Result<FileRec, AllocError>
-    ensures { IfOk result (λ file. file ≡ file_of world.now path.now owner.now group.now size) }
+) -> Result<PlainPut, AllocError>
+    ensures { IfOk result (λ put. put ≡ put_for (fields_of site.now) path.now owner.now group.now size) }
 {
-    Ok(FileRec {
-        inode: world.next_inode,
+    Ok(PlainPut {
+        inode: inode_for(site, path),
         path: Bytes::from_slice(alloc, path)?,
         owner: Bytes::from_slice(alloc, owner)?,
         group: Bytes::from_slice(alloc, group)?,
-        modified: 0,
-        accessed: 0,
-        resided: 0,
-        generation: 1,
         length: size as u64,
-        cached: size as u64,
-        release: ReleaseKind::Default,
-        partial: 0,
-        stage: StageKind::Default,
-        runs: free_runs(alloc, world, size)?,
-        copies: CopySlots {
-            first: CopySlot::Empty,
-            second: CopySlot::Empty,
-            third: CopySlot::Empty,
-            fourth: CopySlot::Empty,
-        },
+        runs: free_runs(alloc, site, size)?,
     })
 }
 
-// The step that stores a new file.
-fn new_step(alloc: Global, file: &FileRec) -> Result<Step, AllocError>
-    ensures { IfOk result (λ step. step ≡ step_of file.now) }
-{
-    let runs = Vec::from_slice(alloc, file.runs.as_slice())?;
-    Ok(Step {
-        moment: file.modified,
-        kind: StepKind::Put {
-            inode: file.inode,
-            path: file.path.copy()?,
-            owner: file.owner.copy()?,
-            group: file.group.copy()?,
-            length: file.length,
-            runs: List::from_vec(runs),
-        },
-    })
-}
-
-// How many bytes the written form of the step has that stores a new file.
-fn written_bytes(alloc: Global, file: &FileRec) -> Result<u64, AllocError>
-    requires { InRange (step_of file.now) }
-    ensures { IfOk result (λ bytes. bytes ≡ length (written (step_of file.now))) }
-{
-    let step = new_step(alloc, file)?;
-    let mut form = Vec::new(alloc);
-    encode_step(&step, &mut form)?;
-    Ok(form.len() as u64)
-}
-
-impl PlainWorld {
-    ghost use Rattle.std.specs.Prelude.{◌≡◌, ◌+◌, ◌≤◌, ◌<◌, ◌++◌, [], ◌∷◌, OnOk, OnErr, IsTrue, ◌↔◌};
-
-    // Whether the journal has room for the record of a step of so many bytes, and the closed gate behind it.
-    fn has_room(&self, bytes: u64) -> bool
-        ensures { IsTrue result ↔ (self.now.journal + 6 + bytes ≤ 268435456) }
-    {
-        let room = JOURNAL_BYTES - self.journal;
-        room >= 6 && bytes <= room - 6
-    }
-
-    // Adds a new file, whose record in the journal has so many bytes.
-    fn add(&mut self, file: FileRec, record_bytes: u64) -> Result<(), AllocError>
-        requires inode { self.old.next_inode < 4294967295 }
-        requires fits { self.old.journal + record_bytes ≤ 268435456 }
-        ensures files { OnOk result (self.new.files ≡ self.old.files ++ file ∷ []) }
-        ensures next_inode { OnOk result (self.new.next_inode ≡ self.old.next_inode + 1) }
-        ensures journal { OnOk result (self.new.journal ≡ self.old.journal + record_bytes) }
-        ensures blocks { self.new.blocks ≡ self.old.blocks }
-        ensures err { OnErr result (self.new ≡ self.old) }
-    {
-        self.files.push(file)?;
-        self.next_inode += 1;
-        self.journal += record_bytes;
-        Ok(())
-    }
-}
-
-// Stores a put of so many bytes that no rule refuses, where the journal has room for its step.
-fn store_put(
+/// The step of a put of so many bytes.
+pub fn put_made(
     alloc: Global,
-    world: &mut PlainWorld,
+    site: &PlainSite,
+    moment: u64,
     path: &[u8],
     owner: &[u8],
     group: &[u8],
     size: u32,
-) -> Result<Reply, AllocError>
-    requires { put_rule (fields_of world.old) path.now owner.now group.now size ≡ None }
-    ensures answer { (w : World) (bytes : Seq ℕ) → Shows world.old w → size ≡ length bytes
-        → IfOk result (λ reply. Tells (event_told w 0 (answer_in journal_bytes w.history 0 (PutEvent path.now owner.now group.now bytes))) reply world.new) }
-    ensures err { OnErr result (world.new ≡ world.old) }
+) -> Result<Step, AllocError>
+    ensures { IfOk result (λ step. step ≡ put_made (fields_of site.now) moment path.now owner.now group.now size) }
 {
-    let file = new_file(alloc, world, path, owner, group, size)?;
-    let bytes = written_bytes(alloc, &file)?;
-    if !world.has_room(bytes) {
-        return Ok(Reply::JournalFull);
-    }
-    let inode = file.inode;
-    world.add(file, 5 + bytes)?;
-    Ok(Reply::Stored {
+    let put = put_for(alloc, site, path, owner, group, size)?;
+    let PlainPut {
         inode,
-        created: true,
+        path,
+        owner,
+        group,
+        length,
+        runs,
+    } = put;
+    Ok(Step {
+        moment,
+        kind: StepKind::Put {
+            inode,
+            path,
+            owner,
+            group,
+            length,
+            runs,
+        },
     })
 }
 
-/// What a put at the moment 0 is answered, and its file is kept. Err is want of memory, and the world
-/// stays.
-pub fn plain_put(
-    alloc: Global,
-    world: &mut PlainWorld,
-    path: &[u8],
-    owner: &[u8],
-    group: &[u8],
-    bytes: &[u8],
-) -> Result<Reply, AllocError>
-    ensures answer { (w : World) → Shows world.old w
-        → IfOk result (λ reply. Tells (event_told w 0 (answer_in journal_bytes w.history 0 (PutEvent path.now owner.now group.now bytes.now))) reply world.new) }
-    ensures err { OnErr result (world.new ≡ world.old) }
+// The file that a put leaves where none was there: it is whole, and its three moments are that of the put.
+fn new_file(moment: u64, put: PlainPut) -> FileRec
+    ensures { result ≡ stored_file None moment put }
 {
-    match plain_rule(alloc, world, path, owner, group, bytes.len())? {
-        Some(rule) => Ok(Reply::Refused(rule)),
-        None => store_put(alloc, world, path, owner, group, bytes.len() as u32),
+    let PlainPut {
+        inode,
+        path,
+        owner,
+        group,
+        length,
+        runs,
+    } = put;
+    FileRec {
+        inode,
+        path,
+        owner,
+        group,
+        modified: moment,
+        accessed: moment,
+        resided: moment,
+        generation: 1,
+        length,
+        cached: length,
+        release: ReleaseKind::Default,
+        partial: 0,
+        stage: StageKind::Default,
+        runs,
+        copies: CopySlots::empty(),
+    }
+}
+
+// The file that a put leaves of one that was there: it keeps its attributes and its copies.
+fn replaced_file(
+    alloc: Global,
+    file: &FileRec,
+    moment: u64,
+    put: PlainPut,
+) -> Result<FileRec, AllocError>
+    requires { file.now.generation + 1 < 2 ^ 64 }
+    ensures { IfOk result (λ stored. stored ≡ stored_file (Some file.now) moment put) }
+{
+    let FileRec {
+        inode,
+        path,
+        generation,
+        release,
+        partial,
+        stage,
+        copies,
+        ..
+    } = copy_file(alloc, file)?;
+    let PlainPut {
+        owner,
+        group,
+        length,
+        runs,
+        ..
+    } = put;
+    Ok(FileRec {
+        inode,
+        path,
+        owner,
+        group,
+        modified: moment,
+        accessed: moment,
+        resided: moment,
+        generation: generation + 1,
+        length,
+        cached: length,
+        release,
+        partial,
+        stage,
+        runs,
+        copies,
+    })
+}
+
+/// The file that a put leaves: a new one, or one whose bytes, owner and group are replaced.
+pub fn stored_file(
+    alloc: Global,
+    file: Option<&FileRec>,
+    moment: u64,
+    put: PlainPut,
+) -> Result<FileRec, AllocError>
+    requires { IfSome (option_copied file) (λ (file : Rec). file.generation + 1 < 2 ^ 64) }
+    ensures { IfOk result (λ stored. stored ≡ stored_file (option_copied file.entry) moment put) }
+{
+    match file {
+        Some(file) => replaced_file(alloc, file, moment, put),
+        None => Ok(new_file(moment, put)),
     }
 }

@@ -3,7 +3,7 @@
 use crate::top::samq;
 use bank::{Bank, BankCall, FailAt, MemoryBank};
 use outside::{LiteralPatterns, MemoryClock, MemoryFolder, MemorySink, MemorySource};
-use session::run_lines;
+use session::{Mark, run_lines};
 use site_text::{Bytes, List};
 use std::alloc::Global;
 use std::process::Abort;
@@ -20,13 +20,19 @@ struct Case<'a> {
     write: u64,
     status: u8,
     answers: &'a [u8],
-    marks: usize,
-    /// The steps that the last mark counts.
-    steps: u64,
+    /// The steps that each mark counts.
+    steps: &'a [u64],
+}
+
+/// What a run left.
+#[derive(Drop)]
+struct Left {
+    bank: MemoryBank,
+    marks: List<Mark>,
 }
 
 // A run without a fault.
-fn plain<'a>(text: &'a [u8], answers: &'a [u8], marks: usize, steps: u64) -> Case<'a> {
+fn plain<'a>(text: &'a [u8], answers: &'a [u8], steps: &'a [u64]) -> Case<'a> {
     Case {
         text,
         budget: 10_000,
@@ -34,7 +40,6 @@ fn plain<'a>(text: &'a [u8], answers: &'a [u8], marks: usize, steps: u64) -> Cas
         write: 0,
         status: 0,
         answers,
-        marks,
         steps,
     }
 }
@@ -53,13 +58,8 @@ fn failing(alloc: Global, area: u32, call: BankCall, number: u64) -> Result<Memo
     Ok(MemoryBank::new(alloc, List::from_vec(fail))?)
 }
 
-// Runs a case over a store, which is handed back.
-fn expect(
-    rt: &impl Abort,
-    alloc: Global,
-    bank: MemoryBank,
-    case: Case<'_>,
-) -> Result<MemoryBank, Fail> {
+// Runs a case over a store, which is handed back with the marks.
+fn run(rt: &impl Abort, alloc: Global, bank: MemoryBank, case: Case<'_>) -> Result<Left, Fail> {
     let text = Bytes::from_slice(alloc, case.text)?;
     let mut input = MemorySource::new(text, 7, one(alloc, case.read)?);
     let mut output = MemorySink::new(alloc, 5, one(alloc, case.write)?);
@@ -75,24 +75,37 @@ fn expect(
     );
     assert_eq!(rt; outcome.status, case.status);
     assert!(rt; output.written() == case.answers);
-    assert_eq!(rt; outcome.marks.len(), case.marks);
-    if let Some(mark) = outcome.marks.as_slice().last() {
-        assert_eq!(rt; mark.answered, case.marks as u64);
-        assert_eq!(rt; mark.steps, case.steps);
+    Ok(Left {
+        bank: outcome.bank,
+        marks: outcome.marks,
+    })
+}
+
+// Runs a case over a store, looks at its marks, and hands the store back.
+fn expect(
+    rt: &impl Abort,
+    alloc: Global,
+    bank: MemoryBank,
+    case: Case<'_>,
+) -> Result<MemoryBank, Fail> {
+    let left = run(rt, alloc, bank, case)?;
+    let marks = left.marks.as_slice();
+    assert_eq!(rt; marks.len(), case.steps.len());
+    for (mark, steps) in marks.iter().zip(case.steps.iter()) {
+        assert_eq!(rt; mark.steps, *steps);
     }
-    Ok(outcome.bank)
+    if let Some(mark) = marks.last() {
+        assert_eq!(rt; mark.answered, marks.len() as u64);
+    }
+    Ok(left.bank)
 }
 
 #[test]
 fn the_first_put_and_an_empty_input(rt: HostRuntime) -> Result<(), Fail> {
     let alloc = rt.alloc();
-    expect(
-        &rt,
-        alloc,
-        fresh(alloc)?,
-        plain(b"put /a u g hi", b"ok 1\n", 1, 1),
-    )?;
-    let bank = expect(&rt, alloc, fresh(alloc)?, plain(b"", b"", 0, 0))?;
+    let put = plain(b"put /a u g hi", b"ok 1\n", &[1]);
+    expect(&rt, alloc, fresh(alloc)?, put)?;
+    let bank = expect(&rt, alloc, fresh(alloc)?, plain(b"", b"", &[]))?;
     assert!(rt; bank.calls().iter().all(|call| call.kind != BankCall::Write));
     Ok(())
 }
@@ -122,15 +135,63 @@ fn other_words_touch_nothing(rt: HostRuntime) -> Result<(), Fail> {
 }
 
 const LINES: &[u8] =
-    b"put /a u g hi\r\n# skipped\n \t\nput /a u g again\nput a u g x\nput //b u g x\nput /./b u g x\nput /b/.. u g x\nput /b/ u g x\nput /\x01 u g x\nput /\xff u g x\nput /b u/v g x\nput /b u g%h x\nput /b u\nfrob\n put \t/b u g  two \n";
+    b"put /a u g hi\r\n# skipped\n \t\nput /a u g again\nput a u g x\nput //b u g x\nput /./b u g x\nput /b/.. u g x\nput /b/ u g x\nput /\x01 u g x\nput /\xff u g x\nput /b u/v g x\nput /b u g%h x\nput /b u\nfrob\nrm\nrm /none\nconfigure\n put \t/b u g  two \n";
 
 const ANSWERS: &[u8] =
-    b"ok 1\nrefused: exists\nrefused: bad path\nrefused: bad path\nrefused: bad path\nrefused: bad path\nrefused: bad path\nrefused: bad path\nrefused: bad path\nrefused: bad attribute\nrefused: bad attribute\nrefused: not a command\nrefused: not a command\nok 2\n";
+    b"ok 1\nok 1\nrefused: bad path\nrefused: bad path\nrefused: bad path\nrefused: bad path\nrefused: bad path\nrefused: bad path\nrefused: bad path\nrefused: bad attribute\nrefused: bad attribute\nrefused: bad word 4\nrefused: not a command\nrefused: bad word 2\nrefused: no file\nrefused: not a command\nok 2\n";
 
 #[test]
 fn each_line_has_its_answer(rt: HostRuntime) -> Result<(), Fail> {
     let alloc = rt.alloc();
-    expect(&rt, alloc, fresh(alloc)?, plain(LINES, ANSWERS, 14, 2))?;
+    let steps = [1, 2, 2, 2, 2, 2, 2, 2, 2, 2, 2, 2, 2, 2, 2, 2, 3];
+    expect(&rt, alloc, fresh(alloc)?, plain(LINES, ANSWERS, &steps))?;
+    Ok(())
+}
+
+const FILES: &[u8] =
+    b"at 100\nput /a u g one\nput /a v h three\ncat /a\nhead /a 2\nhead /a 0\nat 50\nrm /a\ncat /a\nhead /a 1\nput /b u g x\n";
+
+const BYTES: &[u8] =
+    b"at 100\nok 1\nok 1\nbytes 5\nthree\nbytes 2\nth\nbytes 0\n\nat 100\nok 1\nrefused: no file\nrefused: no file\nok 2\n";
+
+#[test]
+fn files_are_put_read_and_removed(rt: HostRuntime) -> Result<(), Fail> {
+    let alloc = rt.alloc();
+    let steps = [0, 1, 2, 3, 4, 5, 5, 6, 6, 6, 7];
+    expect(&rt, alloc, fresh(alloc)?, plain(FILES, BYTES, &steps))?;
+    Ok(())
+}
+
+#[test]
+fn a_second_run_goes_on(rt: HostRuntime) -> Result<(), Fail> {
+    let alloc = rt.alloc();
+    let first = plain(b"at 100\nput /a u g hi\n", b"at 100\nok 1\n", &[0, 1]);
+    let bank = expect(&rt, alloc, fresh(alloc)?, first)?;
+    // the run's moment begins at that of the last step
+    let second = plain(
+        b"at 7\ncat /a\nput /a u g yo\nput /c u g x\n",
+        b"at 100\nbytes 2\nhi\nok 1\nok 2\n",
+        &[1, 2, 3, 4],
+    );
+    let bank = expect(&rt, alloc, bank, second)?;
+    expect(
+        &rt,
+        alloc,
+        bank,
+        plain(b"cat /a\nrm /c\n", b"bytes 2\nyo\nok 2\n", &[5, 6]),
+    )?;
+    Ok(())
+}
+
+#[test]
+fn the_cache_fills_up(rt: HostRuntime) -> Result<(), Fail> {
+    let alloc = rt.alloc();
+    let full = plain(
+        b"make /f1 u g 16777216 0\nmake /f2 u g 16777216 1\nmake /f3 u g 16777216 2\nmake /f4 u g 16777216 3\nput /x u g y\nput /x u g\nmake /y u g 16777217 0\n",
+        b"ok 1\nok 2\nok 3\nok 4\nrefused: no space\nok 5\nrefused: too large\n",
+        &[1, 2, 3, 4, 4, 5, 5],
+    );
+    expect(&rt, alloc, fresh(alloc)?, full)?;
     Ok(())
 }
 
@@ -146,28 +207,20 @@ fn long_line(alloc: Global, front: &[u8], more: usize, behind: &[u8]) -> Result<
 fn long_lines_and_long_paths(rt: HostRuntime) -> Result<(), Fail> {
     let alloc = rt.alloc();
     let fits = long_line(alloc, b"put /a u g ", 4085, b"\n")?;
-    expect(&rt, alloc, fresh(alloc)?, plain(&fits, b"ok 1\n", 1, 1))?;
+    expect(&rt, alloc, fresh(alloc)?, plain(&fits, b"ok 1\n", &[1]))?;
     let over = long_line(alloc, b"put /a u g ", 4086, b"\n")?;
-    expect(
-        &rt,
-        alloc,
-        fresh(alloc)?,
-        plain(&over, b"refused: not a command\n", 1, 0),
-    )?;
+    let refused = plain(&over, b"refused: line too long\n", &[0]);
+    expect(&rt, alloc, fresh(alloc)?, refused)?;
     let path = long_line(alloc, b"put /", 1024, b" u g\n")?;
-    expect(
-        &rt,
-        alloc,
-        fresh(alloc)?,
-        plain(&path, b"refused: bad path\n", 1, 0),
-    )?;
+    let refused = plain(&path, b"refused: bad path\n", &[0]);
+    expect(&rt, alloc, fresh(alloc)?, refused)?;
     Ok(())
 }
 
 #[test]
 fn each_status_has_its_cause(rt: HostRuntime) -> Result<(), Fail> {
     let alloc = rt.alloc();
-    let put = plain(b"put /a u g hi\n", b"ok 1\n", 1, 1);
+    let put = plain(b"put /a u g hi\n", b"ok 1\n", &[1]);
     let over = Case {
         text: b"put /a u g hi\nxyz",
         budget: 16,
@@ -175,53 +228,124 @@ fn each_status_has_its_cause(rt: HostRuntime) -> Result<(), Fail> {
         ..put
     };
     expect(&rt, alloc, fresh(alloc)?, over)?;
+    let nothing = Case {
+        answers: b"",
+        steps: &[],
+        ..put
+    };
     let unread = Case {
         read: 2,
         status: 4,
-        answers: b"",
-        marks: 0,
-        ..put
+        ..nothing
     };
     expect(&rt, alloc, fresh(alloc)?, unread)?;
     let unwritten = Case {
         write: 1,
         status: 5,
-        answers: b"",
-        marks: 0,
-        ..put
+        ..nothing
     };
     expect(&rt, alloc, fresh(alloc)?, unwritten)?;
+    Ok(())
+}
+
+#[test]
+fn a_bad_journal_is_told(rt: HostRuntime) -> Result<(), Fail> {
+    let alloc = rt.alloc();
     let mut used = fresh(alloc)?;
-    assert!(rt; used.write(0, 0, &[1, 5, 0, 0, 0, 255]).is_ok());
+    // a record of five bytes, which are those of no step
+    let record = [1, 5, 0, 0, 0, 255, 0, 0, 0, 0];
+    assert!(rt; used.write(0, 0, &record).is_ok());
     let refused = Case {
         status: 2,
-        answers: b"bad journal at 0\n",
-        marks: 0,
-        ..put
+        ..plain(b"put /a u g hi\n", b"bad journal at 0\n", &[])
     };
     expect(&rt, alloc, used, refused)?;
     Ok(())
 }
 
+const TWO_PUTS: &[u8] = b"put /a u g hi\nput /b u g yo\n";
+
 #[test]
-fn each_call_of_the_store_fails_once(rt: HostRuntime) -> Result<(), Fail> {
+fn a_fault_at_opening_ends_the_run(rt: HostRuntime) -> Result<(), Fail> {
     let alloc = rt.alloc();
-    let text = b"put /a u g hi\nput /b u g yo\n";
     let shut = Case {
         status: 3,
-        ..plain(text, b"", 0, 0)
+        ..plain(TWO_PUTS, b"", &[])
     };
-    expect(&rt, alloc, failing(alloc, 0, BankCall::Sync, 1)?, shut)?;
-    expect(&rt, alloc, failing(alloc, 0, BankCall::Read, 1)?, shut)?;
-    let fault = Case {
+    for call in [BankCall::Sync, BankCall::Read] {
+        expect(&rt, alloc, failing(alloc, 0, call, 1)?, shut)?;
+    }
+    Ok(())
+}
+
+#[test]
+fn a_fault_of_the_store_is_answered_and_the_next_put_goes_on(rt: HostRuntime) -> Result<(), Fail> {
+    let alloc = rt.alloc();
+    let lost = Case {
         status: 3,
-        ..plain(text, b"fault: bank\n", 1, 0)
+        ..plain(TWO_PUTS, b"fault: bank\nok 1\n", &[0, 1])
     };
-    expect(&rt, alloc, failing(alloc, 1, BankCall::Write, 1)?, fault)?;
-    expect(&rt, alloc, failing(alloc, 1, BankCall::Sync, 1)?, fault)?;
-    expect(&rt, alloc, failing(alloc, 0, BankCall::Write, 1)?, fault)?;
-    expect(&rt, alloc, failing(alloc, 0, BankCall::Write, 2)?, fault)?;
-    expect(&rt, alloc, failing(alloc, 0, BankCall::Sync, 2)?, fault)?;
-    expect(&rt, alloc, failing(alloc, 0, BankCall::Sync, 3)?, fault)?;
+    // the bytes of the file, and the record of its step up to its gate
+    expect(&rt, alloc, failing(alloc, 1, BankCall::Write, 1)?, lost)?;
+    expect(&rt, alloc, failing(alloc, 1, BankCall::Sync, 1)?, lost)?;
+    expect(&rt, alloc, failing(alloc, 0, BankCall::Write, 1)?, lost)?;
+    expect(&rt, alloc, failing(alloc, 0, BankCall::Sync, 2)?, lost)?;
+    expect(&rt, alloc, failing(alloc, 0, BankCall::Write, 2)?, lost)?;
+    // the gate was written, and the reopening finds the step
+    let adopted = Case {
+        answers: b"fault: bank\nok 2\n",
+        steps: &[0, 2],
+        ..lost
+    };
+    expect(&rt, alloc, failing(alloc, 0, BankCall::Sync, 3)?, adopted)?;
+    Ok(())
+}
+
+const CHANGES: &[u8] = b"put /a u g hi\nput /a u g again\ncat /a\nrm /a\n";
+
+// The steps of a store that crashed.
+fn steps_after(rt: &impl Abort, alloc: Global, bank: MemoryBank) -> Result<u64, Fail> {
+    let left = run(
+        rt,
+        alloc,
+        bank,
+        plain(b"rm /none\n", b"refused: no file\n", &[]),
+    )?;
+    assert_eq!(rt; left.marks.len(), 1);
+    Ok(left.marks.as_slice().last().map_or(0, |mark| mark.steps))
+}
+
+// How many steps were acknowledged at a moment.
+fn acknowledged(marks: &[Mark], moment: u64) -> u64 {
+    let mut steps = 0;
+    for mark in marks {
+        if mark.moment <= moment {
+            steps = mark.steps;
+        }
+    }
+    steps
+}
+
+#[test]
+fn a_crash_leaves_each_acknowledged_step(rt: HostRuntime) -> Result<(), Fail> {
+    let alloc = rt.alloc();
+    let left = run(
+        &rt,
+        alloc,
+        fresh(alloc)?,
+        plain(
+            CHANGES,
+            b"ok 1\nok 1\nbytes 5\nagain\nok 1\n",
+            &[1, 2, 3, 4],
+        ),
+    )?;
+    for moment in 0..=left.bank.moment() {
+        let least = acknowledged(left.marks.as_slice(), moment);
+        for pick in 0..3 {
+            let steps = steps_after(&rt, alloc, left.bank.crashed(moment, pick)?)?;
+            assert!(rt; least <= steps);
+            assert!(rt; steps <= least.saturating_add(1));
+        }
+    }
     Ok(())
 }

@@ -1,9 +1,11 @@
 //! The top call.
 
-ghost use Rattle.std.specs.Prelude.{◌≡◌, ℕ, ◌↔◌, [], false, true, map, string_bytes};
+ghost use Rattle.std.specs.Prelude.{◌≡◌, ◌≢◌, ℕ, ◌↔◌, [], false, true, map, string_bytes, Bool, IsTrue, List as Seq};
 ghost use Rattle.samq.specs.Words.{is_run};
+ghost use Rattle.site_history.specs.Steps.{HistoryStep};
+ghost use Rattle.site_history.specs.Images.{IsSettled};
 ghost use Rattle.session.specs.Session.{seen};
-ghost use Rattle.session.specs.Outcomes.{IsOutcome, HasStatus, AreOfEngine};
+ghost use Rattle.session.specs.Outcomes.{journal_bytes, IsOutcome, HasStatus};
 
 use bank::Bank;
 use outside::{Clock, Folder, Patterns, Sink, Source};
@@ -37,16 +39,21 @@ pub fn samq<B: Bank, C: Clock, F: Folder, P: Patterns, I: Source, O: Sink>(
     output: &mut O,
 ) -> Outcome<B, P>
     ensures words { (result.status ≡ 1) ↔ (is_run (map string_bytes words.now) ≡ false) }
-    // What was read, asked, answered and written, and what ended the run.
-    ensures outcome { is_run (map string_bytes words.now) ≡ true → IsOutcome (AreOfEngine result.bank result.patterns) B.tells ((B.view bank).content 0 0) 4294967296
+    // Over a store that is settled for a history, or over any store that tells nothing: what was read, asked, answered and
+    // written, what ended the run, and what each crash meanwhile may leave.
+    ensures outcome { is_run (map string_bytes words.now) ≡ true → (told : Bool) → (IsTrue told → IsTrue B.tells) → (before : Seq HistoryStep)
+        → (IsTrue told → IsSettled journal_bytes (B.view bank) before)
+        → IsOutcome told 4294967296 (B.view bank) (B.view result.bank)
         (seen I.left I.faults O.written O.faults B.faults B.view input.old output.old bank)
         (seen I.left I.faults O.written O.faults B.faults B.view input.new output.new result.bank)
-        result.marks result.status }
-    // The causes of the status, and what the statuses 0, 2 and 7 mean.
-    ensures status { is_run (map string_bytes words.now) ≡ true → HasStatus B.tells ((B.view bank).content 0 0) 4294967296
+        before result.marks result.status }
+    // The causes of the status, over any store, and what the statuses 0, 2 and 7 mean.
+    ensures status { is_run (map string_bytes words.now) ≡ true → HasStatus B.tells ((B.view bank).content 0) 4294967296
         (seen I.left I.faults O.written O.faults B.faults B.view input.old output.old bank)
         (seen I.left I.faults O.written O.faults B.faults B.view input.new output.new result.bank)
         result.status }
+    // The journal of a settled store is never bad.
+    ensures good { IsTrue B.tells → (before : Seq HistoryStep) → IsSettled journal_bytes (B.view bank) before → result.status ≢ 2 }
     ensures untouched { is_run (map string_bytes words.now) ≡ false
         → (input.new ≡ input.old) × (output.new ≡ output.old) × (result.bank ≡ bank) × (result.marks ≡ []) }
     ensures patterns { result.patterns ≡ patterns }

@@ -1,16 +1,20 @@
 -- From a loop that goes on to a session that has ended.
-use Rattle.std.proofs.Common.{◌≡◌, ◌⊎◌, inl, inr, ℕ, ◌+◌, ◌≤◌, List, [], ◌∷◌, ◌++◌, length, take, map, refl, sym, ◌∙◌, ap, subst, arith, Bool, true, false, cond, append_assoc, Option, Some, None, IsTrue}
+use Rattle.std.proofs.Common.{◌≡◌, ◌⊎◌, inl, inr, ℕ, ◌+◌, ◌≤◌, List, [], ◌∷◌, ◌++◌, length, take, refl, sym, ◌∙◌, ap, subst, arith, Bool, true, false, cond, append_assoc, Option, Some, None, IsTrue}
 use Rattle.std.proofs.lemmas.List.{append-nil}
 use Rattle.std.proofs.KnownBytes.{Appends-nil, Appends-trans}
 use Rattle.std.specs.Io.KnownBytes.{Appends}
 use Rattle.site_text.specs.Causes.{AreCounted}
+use Rattle.bank.specs.Content.{Image}
+use Rattle.bank.specs.View.{View, IsImage, IsSound}
 use Rattle.desk.specs.Texts.{text_of}
 use Rattle.input.specs.Reading.{Reading, Items, Moved}
 use Rattle.input.proofs.Steps.{stays, then_moved}
 use Rattle.site_history.specs.Worlds.{World}
+use Rattle.site_history.specs.Images.{ReadsAs}
 use Rattle.session.specs.Asking.{Request}
-use Rattle.session.specs.Rounds.{Round, IsRoundOf, IsRun, world_after, asked, output, AreInTime, mark_of, marks_from, cause_of, first_of, status_from, faults_of, faults_in, calm}
-use Rattle.session.specs.Machine.{told_of, machine_run}
+use Rattle.session.specs.Rounds.{Stage, Round, IsRoundOf, IsRun, stage_after, asked, output, AreInTime, mark_of, marks_from, cause_of, first_of, status_from, faults_of, faults_in, calm}
+use Rattle.session.specs.Machine.{AreTold, machine_run}
+use Rattle.session.specs.Kept.{AreKept}
 use Rattle.session.specs.Session.{Outside, IsSession, Ends, status_of}
 use Rattle.session.specs.Hearing.{Takes, Stops}
 use Rattle.session.specs.OneRound.{IsRound, Tells}
@@ -20,13 +24,15 @@ use Rattle.session.specs.declared.kept.Ending.{Ending}
 use Rattle.session.specs.declared.kept.Ending.TheVariants.{Ended, Closed, SourceFault, SinkFault, OverBudget, NoMemory}
 use Rattle.session.proofs.RoundLaws.{run_more, after_more, asked_more, output_more, marks_more, marks-length, in_time_more, status_then, status_more, faults_more, counted_more, first_none, go_on_more}
 use Rattle.session.proofs.MachineLaws.{fixed_run}
+use Rattle.session.proofs.KeptLaws.{kept_begun, kept_more}
 
+-- A test is true or false.
 cases : (b : Bool) → (b ≡ true) ⊎ (b ≡ false)
 cases true = inl refl
 cases false = inr refl
 
-module _ (Asks : Items Request) (Stands : World → Type 0) (tells : Bool) (size at_moment : ℕ) (old now : Outside) (start reader : Reading) (first : World) (marks : List Mark) (status : ℕ)
-    (r : Ran Asks Stands tells size at_moment old now start reader first marks status) where
+module _ (Asks : Items Request) (Stands : World → Type 0) (tells : Bool) (size : ℕ) (store : View) (old now : Outside) (start reader : Reading) (first : Stage) (rests : first.world.due ≡ false) (moment : ℕ) (marks : List Mark) (status : ℕ)
+    (r : Ran Asks Stands tells size store old now start reader first moment marks status) where
   -- the reader stopped, and no request was left
   module _ (left' : Option (List ℕ)) (reader' : Reading) (used beyond : List ℕ) (m : Moved now.left left' reader reader' used beyond) where
     all_moved : Moved old.left left' start reader' (r.used ++ used) beyond
@@ -40,13 +46,13 @@ module _ (Asks : Items Request) (Stands : World → Type 0) (tells : Bool) (size
 
     at_read : (source_faults : ℕ) → start.held ≡ [] → start.ended ≡ false → reader'.held ≡ [] → Asks used reader'.ended ≡ [] → (reader.ended ≡ true → used ≡ []) → (ending : Ending)
         → Ends start.budget old (record now { left = left'; source_faults = source_faults }) all_moved.more beyond reader'.ended r.rounds [] [] [] ending
-        → IsSession Asks Stands tells size at_moment start.budget old (record now { left = left'; source_faults = source_faults }) first marks (first_of status (status_of ending))
+        → IsSession Asks Stands tells size start.budget store old (record now { left = left'; source_faults = source_faults }) first marks (first_of status (status_of ending))
     at_read source_faults fresh was_open drained none again ending ends =
         let same : all_moved.more ≡ (r.used ++ used) ++ reader'.held = ap (λ (l : List ℕ). l ++ all_moved.more) (sym fresh) ∙ all_moved.split in
         let nil = append-nil r.rounds in
         let asks : asked (r.rounds ++ []) ++ [] ≡ Asks all_moved.more reader'.ended =
         append-nil (asked (r.rounds ++ [])) ∙ ap asked nil ∙ sym (ap (λ (l : List ℕ). Asks l reader'.ended) same ∙ all_asked drained none again) in
-        let run : IsRun size at_moment first (r.rounds ++ []) = subst (λ (l : List Round). IsRun size at_moment first l) (sym nil) r.run in
+        let run : IsRun size tells first (r.rounds ++ []) = subst (λ (l : List Round). IsRun size tells first l) (sym nil) r.run in
         record {
           read = all_moved.more;
           beyond = beyond;
@@ -59,25 +65,26 @@ module _ (Asks : Items Request) (Stands : World → Type 0) (tells : Bool) (size
           unasked = [];
           asks = asks;
           run = run;
-          stands = subst (λ (l : List Round). Stands (world_after first l)) (sym nil) r.stands;
+          stands = subst (λ (l : List Round). Stands (stage_after first l).world) (sym nil) r.stands;
           cut = [];
           lost = [];
           cut_off = refl;
           written = subst (λ (l : List ℕ). Appends old.written now.written l) (sym (append-nil (output r.rounds))) r.written;
           marks_told = r.marks_told;
           in_time = λ t. subst (λ (l : List Round). AreInTime old.moment l now.moment) (sym nil) (r.in_time t);
+          kept = λ t. subst (λ (l : List Round). AreKept size store old.moment first.world l) (sym nil) (r.kept t);
           counted = subst (λ (l : List Round). AreCounted old.bank_faults (faults_in l) now.bank_faults) (sym nil) r.counted;
           ending = ending;
           ends = ends;
           first_cause = ap (λ (n : ℕ). first_of n (status_of ending)) r.status_now ∙ status_then r.rounds (status_of ending) ∙ ap (λ (l : List Round). status_from l (status_of ending)) (sym nil);
-          fixed = subst (λ (l : List Request). map told_of (calm (r.rounds ++ [])) ≡ machine_run size at_moment first (take (length (calm (r.rounds ++ []))) l)) asks
-              (fixed_run size at_moment first (r.rounds ++ []) [] run);
+          fixed = subst (λ (l : List Request). AreTold tells (calm (r.rounds ++ [])) (machine_run size first (take (length (calm (r.rounds ++ []))) l))) asks
+              (fixed_run size tells first (r.rounds ++ []) [] rests run);
         }
 
   -- the reader stopped
   pub stopped_at : (left' : Option (List ℕ)) (source_faults : ℕ) (reader' : Reading) → start.held ≡ [] → start.ended ≡ false → old.source_faults ≤ now.source_faults → (ending : Ending)
       → Stops Asks now.left left' now.source_faults source_faults reader reader' ending
-      → IsSession Asks Stands tells size at_moment start.budget old (record now { left = left'; source_faults = source_faults }) first marks (first_of status (status_of ending))
+      → IsSession Asks Stands tells size start.budget store old (record now { left = left'; source_faults = source_faults }) first marks (first_of status (status_of ending))
   stopped_at left' source_faults reader' fresh was_open later Ended s =
       at_read left' reader' s.used [] s.moved source_faults fresh was_open s.nothing_held (ap (λ (b : Bool). Asks s.used b) s.ended ∙ s.none) s.again Ended (r.go_on, refl, s.ended, refl, refl)
   stopped_at left' source_faults reader' fresh was_open later SourceFault s =
@@ -94,7 +101,7 @@ module _ (Asks : Items Request) (Stands : World → Type 0) (tells : Bool) (size
 
   -- a line that asks nothing was read
   pub goes_over : (left' : Option (List ℕ)) (source_faults : ℕ) (reader' : Reading) → Takes Asks now.left left' reader reader' []
-      → Ran Asks Stands tells size at_moment old (record now { left = left'; source_faults = source_faults }) start reader' first marks status
+      → Ran Asks Stands tells size store old (record now { left = left'; source_faults = source_faults }) start reader' first moment marks status
   goes_over left' source_faults reader' t = record {
     rounds = r.rounds;
     used = r.used ++ t.used;
@@ -104,23 +111,25 @@ module _ (Asks : Items Request) (Stands : World → Type 0) (tells : Bool) (size
     run = r.run;
     go_on = r.go_on;
     stands = r.stands;
+    at_moment = r.at_moment;
     written = r.written;
     marks_told = r.marks_told;
     in_time = r.in_time;
+    kept = r.kept;
     counted = r.counted;
     status_now = r.status_now;
   }
 
   -- a request was read, and its round was made
   module _ (left' : Option (List ℕ)) (source_faults : ℕ) (reader' : Reading) (request : Request) (t : Takes Asks now.left left' reader reader' (request ∷ []))
-      (Stands' : World → Type 0) (written' : Option (List ℕ)) (sink_faults bank_faults moment : ℕ) (marks' : List Mark) (status' : ℕ) (end : Option Ending) (round : Round)
-      (size' : ℕ) (same_size : size' ≡ size)
-      (made : IsRound Stands' tells size' at_moment (world_after first r.rounds) request now.written written' now.sink_faults sink_faults now.bank_faults bank_faults now.moment moment marks marks' status status' end round) where
-    ir : IsRound Stands' tells size at_moment (world_after first r.rounds) request now.written written' now.sink_faults sink_faults now.bank_faults bank_faults now.moment moment marks marks' status status' end round
-    ir = subst (λ (n : ℕ). IsRound Stands' tells n at_moment (world_after first r.rounds) request now.written written' now.sink_faults sink_faults now.bank_faults bank_faults now.moment moment marks marks' status status' end round) same_size made
+      (Stands' : World → Type 0) (store' : View) (written' : Option (List ℕ)) (sink_faults bank_faults : ℕ) (marks' : List Mark) (status' : ℕ) (end : Option Ending) (round : Round)
+      (size' : ℕ) (same_size : size' ≡ size) (same_moment : now.moment ≡ store.moment)
+      (made : IsRound Stands' tells size' store store' (stage_after first r.rounds) request now.written written' now.sink_faults sink_faults now.bank_faults bank_faults marks marks' status status' end round) where
+    ir : IsRound Stands' tells size store store' (stage_after first r.rounds) request now.written written' now.sink_faults sink_faults now.bank_faults bank_faults marks marks' status status' end round
+    ir = subst (λ (n : ℕ). IsRound Stands' tells n store store' (stage_after first r.rounds) request now.written written' now.sink_faults sink_faults now.bank_faults bank_faults marks marks' status status' end round) same_size made
 
     abbrev new : Outside
-    new = record { left = left'; source_faults = source_faults; written = written'; sink_faults = sink_faults; bank_faults = bank_faults; moment = moment }
+    new = record { left = left'; source_faults = source_faults; written = written'; sink_faults = sink_faults; bank_faults = bank_faults; moment = store'.moment }
 
     moved_then : Moved old.left left' start reader' (r.used ++ t.used) []
     moved_then = then_moved old.left now.left left' start reader reader' r.used t.used [] r.moved t.moved
@@ -136,14 +145,21 @@ module _ (Asks : Items Request) (Stands : World → Type 0) (tells : Bool) (size
     whole_then : reader'.ended ≡ true → Asks (r.used ++ t.used) true ≡ asked (r.rounds ++ round ∷ [])
     whole_then e = r.opened t.was_open t.used true ∙ ap (λ (l : List Request). asked r.rounds ++ l) (t.last e) ∙ sym asked_then
 
-    run_then : IsRun size at_moment first (r.rounds ++ round ∷ [])
-    run_then = run_more size at_moment first r.rounds round r.run (subst (λ (x : Request). IsRoundOf size at_moment (world_after first r.rounds) x round.reply round.after) (sym ir.same) ir.turn)
+    run_then : IsRun size tells first (r.rounds ++ round ∷ [])
+    run_then = run_more size tells first r.rounds round r.run (subst (λ (x : Request). IsRoundOf size tells (stage_after first r.rounds) x round.reply round.after) (sym ir.same) ir.turn)
 
-    stands_then : Stands' (world_after first (r.rounds ++ round ∷ []))
-    stands_then = subst Stands' (sym (after_more first r.rounds round)) ir.stands
+    stands_then : Stands' (stage_after first (r.rounds ++ round ∷ [])).world
+    stands_then = subst Stands' (ap (λ (s : Stage). s.world) (sym (after_more first r.rounds round))) ir.stands
 
-    in_time_then : IsTrue tells → AreInTime old.moment (r.rounds ++ round ∷ []) moment
-    in_time_then told = in_time_more old.moment now.moment moment r.rounds round (r.in_time told) (ir.in_time told)
+    before_then : IsTrue tells → AreInTime old.moment r.rounds store.moment
+    before_then told = subst (λ (m : ℕ). AreInTime old.moment r.rounds m) same_moment (r.in_time told)
+
+    in_time_then : IsTrue tells → AreInTime old.moment (r.rounds ++ round ∷ []) store'.moment
+    in_time_then told = in_time_more old.moment store.moment store'.moment r.rounds round (before_then told)
+        (omega (arith, (ir.meanwhile told).later, ir.moment told), omega (arith, ir.moment told))
+
+    kept_then : IsTrue tells → AreKept size store' old.moment first.world (r.rounds ++ round ∷ [])
+    kept_then told = kept_more size store store' old.moment first r.rounds round (r.kept told) (before_then told) (ir.meanwhile told) (ir.moment told) (ir.since told)
 
     counted_then : AreCounted old.bank_faults (faults_in (r.rounds ++ round ∷ [])) bank_faults
     counted_then = subst (λ (n : ℕ). AreCounted old.bank_faults n bank_faults) (sym (faults_more r.rounds round)) (counted_more old.bank_faults (faults_in r.rounds) (faults_of round.reply) now.bank_faults bank_faults r.counted ir.counted)
@@ -162,8 +178,9 @@ module _ (Asks : Items Request) (Stands : World → Type 0) (tells : Bool) (size
     written_then : Appends now.written written' (text_of round.reply) → Appends old.written written' (output (r.rounds ++ round ∷ []))
     written_then h = subst (λ (l : List ℕ). Appends old.written written' l) (sym (output_more r.rounds round)) (Appends-trans old.written now.written written' (output r.rounds) (text_of round.reply) r.written h)
 
-    pub goes_on : Tells now.written written' now.sink_faults sink_faults marks marks' None round.reply (mark_of (length marks + 1) round) → Ran Asks Stands' tells size at_moment old new start reader' first marks' status'
-    goes_on told = record {
+    pub goes_on : (moment' : ℕ) → moment' ≡ round.after.now → Tells now.written written' now.sink_faults sink_faults marks marks' None round.reply (mark_of (length marks + 1) round)
+        → Ran Asks Stands' tells size store' old new start reader' first moment' marks' status'
+    goes_on moment' same_now told = record {
       rounds = r.rounds ++ round ∷ [];
       used = r.used ++ t.used;
       moved = moved_then;
@@ -172,9 +189,11 @@ module _ (Asks : Items Request) (Stands : World → Type 0) (tells : Bool) (size
       run = run_then;
       go_on = go_on_more r.rounds round r.go_on told.2;
       stands = stands_then;
+      at_moment = same_now ∙ ap (λ (s : Stage). s.now) (sym (after_more first r.rounds round));
       written = written_then told.0;
       marks_told = marks_then told.1;
       in_time = in_time_then;
+      kept = kept_then;
       counted = counted_then;
       status_now = sym (first_none status') ∙ status_later 0;
     }
@@ -196,12 +215,12 @@ module _ (Asks : Items Request) (Stands : World → Type 0) (tells : Bool) (size
     at_round : start.held ≡ [] → start.ended ≡ false → (told untold : List Round) → told ++ untold ≡ r.rounds ++ round ∷ [] → (cut lost : List ℕ) → cut ++ lost ≡ output untold
         → Appends old.written written' (output told ++ cut) → marks' ≡ marks_from 0 told → (ending : Ending)
         → Ends start.budget old new moved_then.more [] reader'.ended told untold cut unasked ending
-        → IsSession Asks Stands' tells size at_moment start.budget old new first marks' (first_of status' (status_of ending))
+        → IsSession Asks Stands' tells size start.budget store' old new first marks' (first_of status' (status_of ending))
     at_round fresh was_open told untold all cut lost cut_off written marks_told ending ends =
         let same : moved_then.more ≡ (r.used ++ t.used) ++ reader'.held = ap (λ (l : List ℕ). l ++ moved_then.more) (sym fresh) ∙ moved_then.split in
         let asks : asked (told ++ untold) ++ unasked ≡ Asks moved_then.more reader'.ended =
         ap (λ (l : List Round). asked l ++ unasked) all ∙ sym (ap (λ (l : List ℕ). Asks l reader'.ended) same ∙ asks_round) in
-        let run : IsRun size at_moment first (told ++ untold) = subst (λ (l : List Round). IsRun size at_moment first l) (sym all) run_then in
+        let run : IsRun size tells first (told ++ untold) = subst (λ (l : List Round). IsRun size tells first l) (sym all) run_then in
         record {
           read = moved_then.more;
           beyond = [];
@@ -214,23 +233,24 @@ module _ (Asks : Items Request) (Stands : World → Type 0) (tells : Bool) (size
           unasked = unasked;
           asks = asks;
           run = run;
-          stands = subst (λ (l : List Round). Stands' (world_after first l)) (sym all) stands_then;
+          stands = subst (λ (l : List Round). Stands' (stage_after first l).world) (sym all) stands_then;
           cut = cut;
           lost = lost;
           cut_off = cut_off;
           written = written;
           marks_told = marks_told;
-          in_time = λ t. subst (λ (l : List Round). AreInTime old.moment l moment) (sym all) (in_time_then t);
+          in_time = λ t. subst (λ (l : List Round). AreInTime old.moment l store'.moment) (sym all) (in_time_then t);
+          kept = λ t. subst (λ (l : List Round). AreKept size store' old.moment first.world l) (sym all) (kept_then t);
           counted = subst (λ (l : List Round). AreCounted old.bank_faults (faults_in l) bank_faults) (sym all) counted_then;
           ending = ending;
           ends = ends;
           first_cause = status_later (status_of ending) ∙ ap (λ (l : List Round). status_from l (status_of ending)) (sym all);
-          fixed = subst (λ (l : List Request). map told_of (calm (told ++ untold)) ≡ machine_run size at_moment first (take (length (calm (told ++ untold))) l)) asks (fixed_run size at_moment first (told ++ untold) unasked run);
+          fixed = subst (λ (l : List Request). AreTold tells (calm (told ++ untold)) (machine_run size first (take (length (calm (told ++ untold))) l))) asks (fixed_run size tells first (told ++ untold) unasked rests run);
         }
 
     pub ends_at : start.held ≡ [] → start.ended ≡ false → old.sink_faults ≤ now.sink_faults → (ending : Ending)
         → Tells now.written written' now.sink_faults sink_faults marks marks' (Some ending) round.reply (mark_of (length marks + 1) round)
-        → IsSession Asks Stands' tells size at_moment start.budget old new first marks' (first_of status' (status_of ending))
+        → IsSession Asks Stands' tells size start.budget store' old new first marks' (first_of status' (status_of ending))
     ends_at fresh was_open later Closed told =
         at_round fresh was_open (r.rounds ++ round ∷ []) [] (append-nil (r.rounds ++ round ∷ [])) [] [] refl
         (subst (λ (l : List ℕ). Appends old.written written' l) (sym (append-nil (output (r.rounds ++ round ∷ [])))) (written_then told.0)) (marks_then told.1) Closed
@@ -247,9 +267,12 @@ module _ (Asks : Items Request) (Stands : World → Type 0) (tells : Bool) (size
     ends_at fresh was_open later SourceFault told = absurd told
     ends_at fresh was_open later OverBudget told = absurd told
 
-pub begun : (Asks : Items Request) (Stands : World → Type 0) (tells : Bool) (size at_moment : ℕ) (now : Outside) (start : Reading) (first : World) (marks : List Mark) (status : ℕ)
-    → marks ≡ [] → status ≡ 0 → start.ended ≡ false → Stands first → Ran Asks Stands tells size at_moment now now start start first marks status
-begun Asks Stands tells size at_moment now start first marks status none_marked no_cause was_open stands = record {
+-- Nothing was asked yet.
+pub begun : (Asks : Items Request) (Stands : World → Type 0) (tells : Bool) (size : ℕ) (store : View) (now : Outside) (start : Reading) (first : Stage) (moment : ℕ) (marks : List Mark) (status : ℕ)
+    → marks ≡ [] → status ≡ 0 → start.ended ≡ false → Stands first.world → moment ≡ first.now → now.moment ≡ store.moment
+    → (IsTrue tells → IsSound store) → (IsTrue tells → (c : Image) → IsImage store c → ReadsAs size first.world c)
+    → Ran Asks Stands tells size store now now start start first moment marks status
+begun Asks Stands tells size store now start first moment marks status none_marked no_cause was_open stands at_moment same_moment sound images = record {
   rounds = [];
   used = [];
   moved = stays now.left start;
@@ -258,9 +281,11 @@ begun Asks Stands tells size at_moment now start first marks status none_marked 
   run = tt;
   go_on = tt;
   stands = stands;
+  at_moment = at_moment;
   written = Appends-nil now.written;
   marks_told = none_marked;
   in_time = λ t. omega arith;
+  kept = λ t. subst (λ (m : ℕ). AreKept size store m first.world []) (sym same_moment) (kept_begun size store first.world (sound t) (images t));
   counted = omega arith;
   status_now = no_cause;
 }

@@ -1,21 +1,33 @@
 -- From the session of an engine to the session of a call.
-use Rattle.std.proofs.Common.{◌≡◌, ℕ, ◌≤◌, List, ◌++◌, refl, sym, subst, arith, Bool, Option, IsTrue}
-use Rattle.bank.specs.View.{View}
+use Rattle.std.proofs.Common.{◌≡◌, inl, inr, ℕ, ◌≤◌, List, ◌++◌, refl, sym, ◌∙◌, subst, arith, Bool, Option, IsTrue}
+use Rattle.bank.specs.Content.{Content}
+use Rattle.bank.specs.View.{View, IsSound, OnlyRead}
 use Rattle.input.specs.Reading.{Items}
-use Rattle.site_history.specs.Worlds.{World}
+use Rattle.site_history.specs.Steps.{HistoryStep}
+use Rattle.site_history.specs.Worlds.{World, new_world, IsFound}
+use Rattle.site_history.specs.Images.{IsSettled, IsSettledAs, ReadsAs}
+use Rattle.site_history.specs.Journals.{HoldsHistory}
+use Rattle.site_history.proofs.JournalLaws.{not_bad_journal}
+use Rattle.site_history.proofs.Reopenings.{settled_as}
 use Rattle.engine.specs.declared.kept.Engine.{Engine}
 use Rattle.engine.specs.StandsFor.{StandsFor}
 use Rattle.session.specs.Asking.{Request, asks_of}
+use Rattle.session.specs.Rounds.{Stage, IsRun, stage_after}
+use Rattle.session.specs.Kept.{Passes, AreHeld}
 use Rattle.session.specs.Session.{Outside, IsSession, Ends}
-use Rattle.session.specs.Outcomes.{AreOfEngine, fresh_world, journal_bytes}
+use Rattle.session.specs.Outcomes.{IsAnswered, IsOutcome, HasStatus, stage_of, journal_bytes}
 use Rattle.session.specs.declared.kept.Mark.{Mark}
 use Rattle.session.specs.declared.kept.Ending.{Ending}
-use Rattle.session.proofs.RoundLaws.{earlier}
+use Rattle.session.proofs.KeptLaws.{opening_read, opening_later}
+use Rattle.session.proofs.Prefixes.{marks_held}
+use Rattle.session.proofs.Statuses.{whole_output, session_status, session_exits}
+use Rattle.session.proofs.Refusals.{refusal_exits}
 
--- an earlier count of the store's faults and an earlier moment, and less of where the engine stands
-module _ (Asks : Items Request) (Stands Stands' : World → Type 0) (tells : Bool) (size now budget : ℕ) (old new : Outside) (bank_faults moment : ℕ) (first : World) (marks : List Mark) (status : ℕ) (s : IsSession Asks Stands tells size now budget old new first marks status) where
+-- An earlier count of the store's faults, and less of where the engine stands.
+module _ (Asks : Items Request) (Stands Stands' : World → Type 0) (tells : Bool) (size budget : ℕ) (store : View) (old new : Outside) (bank_faults : ℕ) (first : Stage) (marks : List Mark) (status : ℕ)
+    (s : IsSession Asks Stands tells size budget store old new first marks status) where
   ends_still : (ending : Ending) → Ends budget old new s.read s.beyond s.met_end s.told s.untold s.cut s.unasked ending
-      → Ends budget (record old { bank_faults = bank_faults; moment = moment }) new s.read s.beyond s.met_end s.told s.untold s.cut s.unasked ending
+      → Ends budget (record old { bank_faults = bank_faults }) new s.read s.beyond s.met_end s.told s.untold s.cut s.unasked ending
   ends_still Ending.Ended e = e
   ends_still Ending.Closed e = e
   ends_still Ending.SourceFault e = e
@@ -23,9 +35,9 @@ module _ (Asks : Items Request) (Stands Stands' : World → Type 0) (tells : Boo
   ends_still Ending.OverBudget e = e
   ends_still Ending.NoMemory e = e
 
-  opened : bank_faults ≤ old.bank_faults → (IsTrue tells → moment ≤ old.moment) → ((w : World) → Stands w → Stands' w)
-      → IsSession Asks Stands' tells size now budget (record old { bank_faults = bank_faults; moment = moment }) new first marks status
-  opened fewer before stands = record {
+  counted_earlier : bank_faults ≤ old.bank_faults → ((w : World) → Stands w → Stands' w)
+      → IsSession Asks Stands' tells size budget store (record old { bank_faults = bank_faults }) new first marks status
+  counted_earlier fewer stands = record {
     read = s.read;
     beyond = s.beyond;
     taken = s.taken;
@@ -43,7 +55,8 @@ module _ (Asks : Items Request) (Stands Stands' : World → Type 0) (tells : Boo
     cut_off = s.cut_off;
     written = s.written;
     marks_told = s.marks_told;
-    in_time = λ t. earlier old.moment moment new.moment (s.told ++ s.untold) (before t) (s.in_time t);
+    in_time = s.in_time;
+    kept = s.kept;
     counted = omega (arith, s.counted, fewer);
     ending = s.ending;
     ends = ends_still s.ending s.ends;
@@ -51,27 +64,95 @@ module _ (Asks : Items Request) (Stands Stands' : World → Type 0) (tells : Boo
     fixed = s.fixed;
   }
 
--- what a call hands back
-module _ {B P : Type 0} (tells : Bool) (faults : B → ℕ) (view : B → View) (left left' : Option (List ℕ)) (source_faults source_faults' : ℕ) (written written' : Option (List ℕ)) (sink_faults sink_faults' : ℕ)
-    (bank bank' : B) (patterns' : P) (opening closing : Engine B P) (size budget budget' : ℕ) (marks marks' : List Mark) (status status' : ℕ) where
-  abbrev Told : (World → Type 0) → ℕ → ℕ → B → B → List Mark → ℕ → Type 0
-  Told Stands n b from to ms code = IsSession asks_of Stands tells n 0 b
-      (record { left = left; source_faults = source_faults; written = written; sink_faults = sink_faults; bank_faults = faults from; moment = (view from).moment })
-      (record { left = left'; source_faults = source_faults'; written = written'; sink_faults = sink_faults'; bank_faults = faults to; moment = (view to).moment })
-      fresh_world ms code
+-- What a crash left since a mark holds the steps that the mark counts.
+all_held : (size : ℕ) (store : View) (tells : Bool) (old new : Outside) (first : Stage) (marks : List Mark) (Stands : World → Type 0) (budget status : ℕ)
+    → (s : IsSession asks_of Stands tells size budget store old new first marks status) → IsTrue tells → AreHeld size store (stage_after first (s.told ++ s.untold)).world.history marks
+all_held size store tells old new first marks Stands budget status s t =
+    subst (λ (ms : List Mark). AreHeld size store (stage_after first (s.told ++ s.untold)).world.history ms) (sym s.marks_told)
+    (marks_held size store old.moment 0 first s.told s.untold (s.kept t) (subst (λ (b : Bool). IsRun size b first (s.told ++ s.untold)) t s.run))
 
-  pub handed : StandsFor opening fresh_world → faults bank ≤ faults opening.bank → (IsTrue tells → (view bank).moment ≤ (view opening.bank).moment)
-      → ((w : World) → StandsFor opening w → IsSession asks_of (StandsFor closing) tells size 0 budget'
-      (record { left = left; source_faults = source_faults; written = written; sink_faults = sink_faults; bank_faults = faults opening.bank; moment = (view opening.bank).moment })
-      (record { left = left'; source_faults = source_faults'; written = written'; sink_faults = sink_faults'; bank_faults = faults closing.bank; moment = (view closing.bank).moment })
-      w marks status)
-      → size ≡ journal_bytes → budget' ≡ budget → bank' ≡ closing.bank → patterns' ≡ closing.patterns → marks' ≡ marks → status' ≡ status
-      → Told (AreOfEngine bank' patterns') journal_bytes budget bank bank' marks' status'
-  handed stands later moment_later session same_size same_budget same_bank same_patterns same_marks same_status =
-      subst (λ (code : ℕ). Told (AreOfEngine bank' patterns') journal_bytes budget bank bank' marks' code) (sym same_status)
-      (subst (λ (ms : List Mark). Told (AreOfEngine bank' patterns') journal_bytes budget bank bank' ms status) (sym same_marks)
-      (subst (λ (b : B). Told (AreOfEngine b patterns') journal_bytes budget bank b marks status) (sym same_bank)
-      (subst (λ (b : ℕ). Told (AreOfEngine closing.bank patterns') journal_bytes b bank closing.bank marks status) same_budget
-      (subst (λ (n : ℕ). Told (AreOfEngine closing.bank patterns') n budget' bank closing.bank marks status) same_size
-      (opened asks_of (StandsFor closing) (AreOfEngine closing.bank patterns') tells size 0 budget' _ _ (faults bank) (view bank).moment fresh_world marks status
-      (session fresh_world stands) later moment_later (λ w h. (closing, refl, sym same_patterns, h)))))))
+-- An engine that stands for a world leaves its store settled for it.
+leaves_settled : {B P : Type 0} (told : Bool) (view : B → View) (engine : Engine B P) (size : ℕ) (w : World) → engine.journal.size ≡ size → (IsTrue told → IsSound (view engine.bank)) → StandsFor told view engine w
+    → IsTrue told → IsSettledAs size (view engine.bank) w
+leaves_settled told view engine size w same sound stands t =
+    settled_as size (view engine.bank) w (sound t) (λ c image. subst (λ (n : ℕ). ReadsAs n w c) same (stands.images t c image))
+
+-- What a call hands back after a session.
+module _ {B P : Type 0} (told : Bool) (faults : B → ℕ) (view : B → View) (left left' : Option (List ℕ)) (source_faults source_faults' : ℕ) (written written' : Option (List ℕ)) (sink_faults sink_faults' : ℕ)
+    (bank : B) (opening closing : Engine B P) (before : List HistoryStep) where
+  -- what is told before the call, once the store is open, and at the end
+  abbrev seen_before : Outside
+  seen_before = record { left = left; source_faults = source_faults; written = written; sink_faults = sink_faults; bank_faults = faults bank; moment = (view bank).moment }
+
+  abbrev seen_open : Outside
+  seen_open = record { left = left; source_faults = source_faults; written = written; sink_faults = sink_faults; bank_faults = faults opening.bank; moment = (view opening.bank).moment }
+
+  abbrev seen_after : B → Outside
+  seen_after to = record { left = left'; source_faults = source_faults'; written = written'; sink_faults = sink_faults'; bank_faults = faults to; moment = (view to).moment }
+
+  answered : (found : List HistoryStep) (budget : ℕ) (marks : List Mark) (status : ℕ) → IsFound told before found → (IsTrue told → OnlyRead (view bank) (view opening.bank))
+      → (IsTrue told → IsSettled journal_bytes (view bank) before) → (IsTrue told → IsSound (view closing.bank)) → faults bank ≤ faults opening.bank → closing.journal.size ≡ journal_bytes
+      → (IsTrue told → Passes (view opening.bank) (view closing.bank))
+      → IsSession asks_of (StandsFor told view closing) told journal_bytes budget (view closing.bank) seen_open (seen_after closing.bank) (stage_of found) marks status
+      → IsAnswered told budget (view bank) (view closing.bank) seen_before (seen_after closing.bank) before marks status
+  answered found budget marks status is_found read settled sound fewer same_size passes session =
+      let Settled : World → Type 0 = λ w. IsTrue told → IsSettledAs journal_bytes (view closing.bank) w in
+      let whole_call : IsSession asks_of Settled told journal_bytes budget (view closing.bank) (record seen_open { bank_faults = faults bank }) (seen_after closing.bank) (stage_of found) marks status =
+      counted_earlier asks_of (StandsFor told view closing) Settled told journal_bytes budget (view closing.bank) seen_open (seen_after closing.bank)
+      (faults bank) (stage_of found) marks status session fewer (λ w stands. leaves_settled told view closing journal_bytes w same_size sound stands) in
+      record {
+        found = found;
+        is_found = is_found;
+        opened = (view opening.bank).moment;
+        opening = λ t. opening_later journal_bytes (view opening.bank) (view closing.bank) (view bank).moment before (passes t)
+            (opening_read journal_bytes (view bank) (view opening.bank) before (read t) (settled t));
+        session = whole_call;
+        acknowledged = all_held journal_bytes (view closing.bank) told (record seen_open { bank_faults = faults bank }) (seen_after closing.bank) (stage_of found) marks Settled budget status whole_call;
+        whole = whole_output (StandsFor told view closing) told journal_bytes budget (view closing.bank) seen_open (seen_after closing.bank) (stage_of found) refl marks status session;
+      }
+
+  -- The same, by what the parts of the call say.
+  pub handed : (found : List HistoryStep) × IsFound told before found × StandsFor told view opening (new_world found) → (IsTrue told → OnlyRead (view bank) (view opening.bank))
+      → (IsTrue told → IsSettled journal_bytes (view bank) before) → (IsTrue told → IsSound (view closing.bank)) → faults bank ≤ faults opening.bank
+      → (size budget budget' moment : ℕ) (bank' : B) (marks marks' : List Mark) (status status' : ℕ) → size ≡ journal_bytes → closing.journal.size ≡ size → moment ≡ opening.clock
+      → ((stage : Stage) → StandsFor told view opening stage.world → moment ≡ stage.now → IsTrue told → Passes (view opening.bank) (view closing.bank))
+      → ((stage : Stage) → StandsFor told view opening stage.world → moment ≡ stage.now
+      → IsSession asks_of (StandsFor told view closing) told size budget' (view closing.bank) seen_open (seen_after closing.bank) stage marks status)
+      → budget' ≡ budget → bank' ≡ closing.bank → marks' ≡ marks → status' ≡ status
+      → IsAnswered told budget (view bank) (view bank') seen_before (seen_after bank') before marks' status'
+  handed reopened read settled sound fewer size budget budget' moment bank' marks marks' status status' is_size same_size at_clock passes session same_budget same_bank same_marks same_status =
+      let stage = stage_of reopened.0 in
+      let now : moment ≡ stage.now = at_clock ∙ reopened.2.clock in
+      subst (λ (code : ℕ). IsAnswered told budget (view bank) (view bank') seen_before (seen_after bank') before marks' code) (sym same_status)
+      (subst (λ (ms : List Mark). IsAnswered told budget (view bank) (view bank') seen_before (seen_after bank') before ms status) (sym same_marks)
+      (subst (λ (b : B). IsAnswered told budget (view bank) (view b) seen_before (seen_after b) before marks status) (sym same_bank)
+      (answered reopened.0 budget marks status reopened.1 read settled sound fewer (same_size ∙ is_size) (passes stage reopened.2 now)
+      (subst (λ (n : ℕ). IsSession asks_of (StandsFor told view closing) told n budget (view closing.bank) seen_open (seen_after closing.bank) stage marks status) is_size
+      (subst (λ (b : ℕ). IsSession asks_of (StandsFor told view closing) told size b (view closing.bank) seen_open (seen_after closing.bank) stage marks status) same_budget
+      (session stage reopened.2 now))))))
+
+-- The causes of a status do not speak of the store's moment.
+status_at : (tells : Bool) (journal : Content) (budget : ℕ) (old new : Outside) (moment status : ℕ) → HasStatus tells journal budget (record old { moment = moment }) new status → HasStatus tells journal budget old new status
+status_at tells journal budget old new moment status h = record {
+  bad_journal = h.bad_journal;
+  bank = h.bank;
+  source = h.source;
+  sink = h.sink;
+  over = h.over;
+  read = h.read;
+  refused = h.refused;
+  complete = h.complete;
+}
+
+module _ (told : Bool) (budget : ℕ) (entry store : View) (old new : Outside) (before : List HistoryStep) (marks : List Mark) (status : ℕ) where
+  -- The causes of the status of a call whose store was opened.
+  pub answered_status : (tells : Bool) (journal : Content) → (IsTrue tells → (found : List HistoryStep) × HoldsHistory journal_bytes journal found)
+      → IsAnswered told budget entry store old new before marks status → HasStatus tells journal budget old new status
+  answered_status tells journal holds a = status_at tells journal budget old new a.opened status
+      (session_status (λ w. IsTrue told → IsSettledAs journal_bytes store w) told journal_bytes budget store (record old { moment = a.opened }) new (stage_of a.found) refl marks status a.session tells journal
+      (λ t place bad. not_bad_journal journal_bytes journal (holds t).0 place (holds t).1 bad))
+
+  -- No call over words that are a form ends with status 1.
+  pub never_one : IsOutcome told budget entry store old new before marks status → status ≡ 1 → ⊥
+  never_one (inl a) h = session_exits (λ w. IsTrue told → IsSettledAs journal_bytes store w) told journal_bytes budget store (record old { moment = a.opened }) new (stage_of a.found) refl marks status a.session (inl h)
+  never_one (inr r) h = refusal_exits old new told (entry.content 0) status r.refusal h

@@ -1,5 +1,5 @@
 -- From lines to what they ask.
-use Rattle.std.proofs.Common.{◌≡◌, ℕ, List, [], ◌∷◌, refl, ap, ◌∙◌, Option, Bool, false, cond, inl, inr, Result, Ok, Err, sym, subst}
+use Rattle.std.proofs.Common.{◌≡◌, ℕ, List, [], ◌∷◌, refl, ap, ◌∙◌, Option, Bool, false, cond, inl, inr, Result, Ok, Err, subst}
 use Rattle.std.specs.Prelude.{flat_map}
 use Rattle.std.proofs.lemmas.List.{append-nil}
 use Rattle.records.specs.declared.event.Asked.{Asked}
@@ -15,10 +15,10 @@ use Rattle.session.specs.Hearing.{Takes, IsReadAs}
 
 -- an answer is what was asked, or want of memory
 read_as : (asked : Result Asked LineRefusal) (request : Request) → Answers asked request → IsReadAs asked request
-read_as (Ok asked) request h = inl (sym h)
-read_as (Err NotACommand) request h = inl (sym h)
-read_as (Err (BadWord number)) request h = inl (sym h)
-read_as (Err LineTooLong) request h = inl (sym h)
+read_as (Ok asked) request h = inl h
+read_as (Err NotACommand) request h = inl h
+read_as (Err (BadWord number)) request h = inl h
+read_as (Err LineTooLong) request h = inl h
 read_as (Err WantOfMemory) request h = inr refl
 
 -- what a line asks was taken
@@ -41,5 +41,5 @@ asks before now old new line asked e read r =
 
 -- and so does one that is too long
 pub too_long : (before now : Option (List ℕ)) (old new : Reading) → ReadsItem raw_lines before now old new Long
-    → (request : Request) × IsReadAs (Err NotACommand) request × Takes asks_of before now old new (request ∷ [])
-too_long before now old new r = (Err NotACommand, inl refl, taken before now old new Long r)
+    → (request : Request) × IsReadAs (Err LineTooLong) request × Takes asks_of before now old new (request ∷ [])
+too_long before now old new r = (Err LineTooLong, inl refl, taken before now old new Long r)

@@ -1,7 +1,12 @@
 pub mod RoundLaws
+pub mod KeptLaws
+pub mod Prefixes
 pub mod MachineLaws
 pub mod Hearings
+pub mod Responses
 pub mod OneRoundLaws
 pub mod Closing
+pub mod StatusCauses
 pub mod Statuses
+pub mod Refusals
 pub mod Handing

@@ -1,36 +1,51 @@
 -- One round from its parts.
-use Rattle.std.proofs.Common.{◌≡◌, ◌+◌, ◌≤◌, ℕ, List, length, refl, ◌∙◌, ap, subst, Option, Bool, IsTrue, arith}
+use Rattle.std.proofs.Common.{◌≡◌, ◌+◌, ℕ, List, length, refl, ◌∙◌, ap, subst, Option, Bool, IsTrue}
 use Rattle.site_text.specs.Causes.{AreCounted}
+use Rattle.bank.specs.Content.{Image}
+use Rattle.bank.specs.View.{View, IsSound}
 use Rattle.records.specs.declared.reply.Reply.{Reply}
 use Rattle.site_history.specs.Worlds.{World}
+use Rattle.site_history.specs.Images.{ReadsAs}
+use Rattle.engine.specs.declared.kept.Engine.{Engine}
+use Rattle.engine.specs.StandsFor.{StandsFor, Moves}
 use Rattle.session.specs.Asking.{Request}
-use Rattle.session.specs.Rounds.{Round, IsRoundOf, first_of, cause_of, faults_of, mark_of}
+use Rattle.session.specs.Rounds.{Stage, Round, IsRoundOf, first_of, cause_of, faults_of, mark_of}
 use Rattle.session.specs.OneRound.{IsRound, Tells}
 use Rattle.session.specs.declared.kept.Mark.{Mark}
 use Rattle.session.specs.declared.kept.Ending.{Ending}
 
--- a round from the world that an engine stands for, by its answer and its mark
-pub made : (Stands : World → Type 0) (tells : Bool) (size now : ℕ) (w : World) (request : Request) (reply : Reply)
-    (written written' : Option (List ℕ)) (faults faults' bank_faults bank_faults' moment moment' : ℕ) (marks mid marks' : List Mark) (status status' : ℕ) (end : Option Ending) (mark : Mark)
-    → (w' : World) × IsRoundOf size now w request reply w' × Stands w'
-    → status' ≡ first_of status (cause_of reply) → AreCounted bank_faults (faults_of reply) bank_faults' → (IsTrue tells → moment ≤ moment')
-    → mid ≡ marks → mark.answered ≡ length mid + 1 → ((v : World) → Stands v → mark.steps ≡ length v.history) → (IsTrue tells → mark.moment ≡ moment')
+-- Since a moment a crash left only images that read as the world for which the engine stands.
+images_since : {B P : Type 0} (told : Bool) (view : B → View) (engine : Engine B P) (size : ℕ) (w : World) → (IsTrue told → IsSound (view engine.bank)) → engine.journal.size ≡ size → StandsFor told view engine w
+    → IsTrue told → (c : Image) → (view engine.bank).left_since (view engine.bank).moment c → ReadsAs size w c
+images_since told view engine size w sound same stands t c left = subst (λ (n : ℕ). ReadsAs n w c) same (stands.images t c ((sound t).only_now c left))
+
+-- A round from the stage at which an engine stands, by its answer and its mark.
+pub made : {B P : Type 0} (told : Bool) (view : B → View) (engine engine' : Engine B P) (stage : Stage) (request : Request) (reply : Reply) (now' : ℕ)
+    (written written' : Option (List ℕ)) (faults faults' bank_faults bank_faults' : ℕ) (marks mid marks' : List Mark) (status status' : ℕ) (end : Option Ending) (mark : Mark)
+    → (IsTrue told → IsSound (view engine'.bank)) → engine'.journal.size ≡ engine.journal.size
+    → (stage' : Stage) × IsRoundOf engine.journal.size told stage request reply stage' × Moves told view engine engine' stage.world stage'.world × (now' ≡ stage'.now)
+    → status' ≡ first_of status (cause_of reply) → AreCounted bank_faults (faults_of reply) bank_faults'
+    → mid ≡ marks → mark.answered ≡ length mid + 1 → ((w : World) → StandsFor told view engine' w → mark.steps ≡ length w.history) → (IsTrue told → mark.moment ≡ (view engine'.bank).moment)
     → Tells written written' faults faults' mid marks' end reply mark
-    → (round : Round) × IsRound Stands tells size now w request written written' faults faults' bank_faults bank_faults' moment moment' marks marks' status status' end round
-made Stands tells size now w request reply written written' faults faults' bank_faults bank_faults' moment moment' marks mid marks' status status' end mark turn cause counted later same answered steps at_moment told = (
+    → (round : Round) × IsRound (StandsFor told view engine') told engine.journal.size (view engine.bank) (view engine'.bank) stage request
+    written written' faults faults' bank_faults bank_faults' marks marks' status status' end round × (now' ≡ round.after.now)
+made told view engine engine' stage request reply now' written written' faults faults' bank_faults bank_faults' marks mid marks' status status' end mark sound same_size turn cause counted same answered steps at_moment tells = (
   record { asked = request; reply = reply; after = turn.0; moment = mark.moment },
   record {
     same = refl;
     turn = turn.1;
-    stands = turn.2;
+    stands = turn.2.stands;
     first_cause = cause;
     counted = counted;
-    in_time = λ t. (omega (arith, later t, at_moment t), omega (arith, at_moment t));
+    moment = at_moment;
+    meanwhile = turn.2.moments;
+    since = images_since told view engine' engine.journal.size turn.0.world sound same_size turn.2.stands;
     tells_answer = subst (λ (ms : List Mark). Tells written written' faults faults' ms marks' end reply (mark_of (length ms + 1) (record { asked = request; reply = reply; after = turn.0; moment = mark.moment }))) same
-        (subst (λ (m : Mark). Tells written written' faults faults' mid marks' end reply m) same_mark told);
+        (subst (λ (m : Mark). Tells written written' faults faults' mid marks' end reply m) same_mark tells);
   },
+  turn.3,
 )
   where
     same_mark : mark ≡ mark_of (length mid + 1) (record { asked = request; reply = reply; after = turn.0; moment = mark.moment })
     same_mark = ap (λ (n : ℕ). let m : Mark = record { answered = n; steps = mark.steps; moment = mark.moment } in m) answered
-        ∙ ap (λ (n : ℕ). let m : Mark = record { answered = length mid + 1; steps = n; moment = mark.moment } in m) (steps turn.0 turn.2)
+        ∙ ap (λ (n : ℕ). let m : Mark = record { answered = length mid + 1; steps = n; moment = mark.moment } in m) (steps turn.0.world turn.2.stands)

@@ -15,16 +15,16 @@ use Rattle.input.specs.Reading.{Items}
 abbrev pub Request : Type 0
 Request = Result Asked LineRefusal
 
--- a line asks one thing, or it is skipped; one that is too long is no command
+-- a line asks one thing, or it is skipped; one that is too long is refused
 abbrev pub requests_of : RawLine → List Request
 requests_of (Kept line) = if is_skipped line then [] else asked_of line ∷ []
-requests_of Long = Err NotACommand ∷ []
+requests_of Long = Err LineTooLong ∷ []
 
 -- what a text asks, whose end was met or not
 abbrev pub asks_of : Items Request
 asks_of bytes ended = flat_map requests_of (raw_lines bytes ended)
 
--- what is answered to a line that is no command, or whose reading found no memory
+-- what is answered to a line that is refused, or whose reading found no memory
 abbrev pub reply_to : LineRefusal → Reply
 reply_to NotACommand = Line NotACommand
 reply_to (BadWord number) = Line (BadWord number)

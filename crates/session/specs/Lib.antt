@@ -1,6 +1,7 @@
 pub mod Asking
 pub mod Rounds
 pub mod Machine
+pub mod Kept
 pub mod Session
 pub mod Hearing
 pub mod OneRound

@@ -1,12 +1,15 @@
 -- What one round does.
-use Rattle.std.specs.Prelude.{◌≡◌, ◌+◌, ◌≤◌, ℕ, List, [], ◌∷◌, ◌++◌, length, Option, Some, None, Bool, true, false, IsTrue}
+use Rattle.std.specs.Prelude.{◌≡◌, ◌⊎◌, ◌+◌, ℕ, List, [], ◌∷◌, ◌++◌, length, Option, Some, None, Bool, true, false, IsTrue}
 use Rattle.std.specs.Io.KnownBytes.{Appends}
 use Rattle.site_text.specs.Causes.{Rose, AreCounted}
+use Rattle.bank.specs.Content.{Image}
+use Rattle.bank.specs.View.{View, LeavesOnly}
 use Rattle.records.specs.declared.reply.Reply.{Reply}
 use Rattle.desk.specs.Texts.{text_of}
 use Rattle.site_history.specs.Worlds.{World}
+use Rattle.site_history.specs.Images.{ReadsAs}
 use Rattle.session.specs.Asking.{Request}
-use Rattle.session.specs.Rounds.{Round, IsRoundOf, ends_run, cause_of, first_of, mark_of, faults_of}
+use Rattle.session.specs.Rounds.{Stage, Round, IsRoundOf, ends_run, cause_of, first_of, mark_of, faults_of}
 use Rattle.session.specs.declared.kept.Mark.{Mark}
 use Rattle.session.specs.declared.kept.Ending.{Ending}
 use Rattle.session.specs.declared.kept.Ending.TheVariants.{Ended, Closed, SourceFault, SinkFault, OverBudget, NoMemory}
@@ -24,14 +27,17 @@ Tells written written' faults faults' marks marks' (Some Ended) reply mark = ⊥
 Tells written written' faults faults' marks marks' (Some SourceFault) reply mark = ⊥
 Tells written written' faults faults' marks marks' (Some OverBudget) reply mark = ⊥
 
--- a round from a world: what was asked, what it did to sink and store, and whether it ended the run
-pub record IsRound (Stands : World → Type 0) (tells : Bool) (size now : ℕ) (w : World) (request : Request)
-    (written written' : Option (List ℕ)) (faults faults' bank_faults bank_faults' moment moment' : ℕ)
+-- A round from a stage: what was asked, what it did to sink and store, and whether it ended the run. Each image that a crash
+-- left meanwhile reads as the world before or as the one after it, and each since its end as the one after it.
+pub record IsRound (Stands : World → Type 0) (tells : Bool) (size : ℕ) (store store' : View) (stage : Stage) (request : Request)
+    (written written' : Option (List ℕ)) (faults faults' bank_faults bank_faults' : ℕ)
     (marks marks' : List Mark) (status status' : ℕ) (end : Option Ending) (round : Round) : Type 0 where
   pub same : round.asked ≡ request
-  pub turn : IsRoundOf size now w request round.reply round.after
-  pub stands : Stands round.after
+  pub turn : IsRoundOf size tells stage request round.reply round.after
+  pub stands : Stands round.after.world
   pub first_cause : status' ≡ first_of status (cause_of round.reply)
   pub counted : AreCounted bank_faults (faults_of round.reply) bank_faults'
-  pub in_time : IsTrue tells → (moment ≤ round.moment) × (round.moment ≤ moment')
+  pub moment : IsTrue tells → round.moment ≡ store'.moment
+  pub meanwhile : IsTrue tells → LeavesOnly store store' (λ c. ReadsAs size stage.world c ⊎ ReadsAs size round.after.world c)
+  pub since : IsTrue tells → (c : Image) → store'.left_since store'.moment c → ReadsAs size round.after.world c
   pub tells_answer : Tells written written' faults faults' marks marks' end round.reply (mark_of (length marks + 1) round)

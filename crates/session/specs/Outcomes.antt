@@ -1,14 +1,19 @@
 -- What a whole call does.
-use Rattle.std.specs.Prelude.{◌≡◌, ◌≢◌, ◌≤◌, ◌<◌, ◌⊎◌, ℕ, List, [], ◌++◌, length, Bool, true, IsTrue, IfSome}
+use Rattle.std.specs.Prelude.{◌≡◌, ◌≤◌, ◌<◌, ◌⊎◌, ℕ, List, [], ◌++◌, length, Bool, true, IsTrue, IfSome}
 use Rattle.std.specs.Io.KnownBytes.{Appends, IsAtEnd}
 use Rattle.site_text.specs.Causes.{Rose}
+use Rattle.bank.specs.Content.{Content}
+use Rattle.bank.specs.View.{View}
 use Rattle.records.specs.declared.reply.Reply.TheVariants.{BadJournal}
 use Rattle.desk.specs.Texts.{text_of}
-use Rattle.site_history.specs.Worlds.{World, new_world}
-use Rattle.engine.specs.declared.kept.Engine.{Engine}
-use Rattle.engine.specs.StandsFor.{StandsFor}
+use Rattle.site_history.specs.Steps.{HistoryStep}
+use Rattle.site_history.specs.Worlds.{new_world, IsFound}
+use Rattle.site_history.specs.Images.{IsSettled, IsSettledAs}
+use Rattle.site_history.specs.Journals.{IsBadJournal}
 use Rattle.session.specs.Asking.{asks_of}
+use Rattle.session.specs.Rounds.{Stage, stage_after}
 use Rattle.session.specs.Machine.{output_of}
+use Rattle.session.specs.Kept.{IsOpening, AreHeld}
 use Rattle.session.specs.Session.{Outside, IsSession}
 use Rattle.session.specs.declared.kept.Mark.{Mark}
 
@@ -16,46 +21,57 @@ use Rattle.session.specs.declared.kept.Mark.{Mark}
 abbrev pub journal_bytes : ℕ
 journal_bytes = 268435456
 
--- why nothing was asked: a fault of the store, want of memory, or a journal that is not empty, which is told
-abbrev pub Refusal : Outside → Outside → Bool → ℕ → ℕ → Type 0
-Refusal old new tells gate status =
+-- a run over a site of this history begins at the moment of its last step
+abbrev pub stage_of : List HistoryStep → Stage
+stage_of history = record { world = new_world history; now = (new_world history).clock }
+
+-- why nothing was asked: a fault of the store, want of memory, or a bad journal, which is told with its place
+abbrev pub Refusal : Outside → Outside → Bool → Content → ℕ → Type 0
+Refusal old new tells journal status =
     ((status ≡ 3) × Rose old.bank_faults new.bank_faults × Appends old.written new.written [])
     ⊎ ((status ≡ 9) × Appends old.written new.written [])
-    ⊎ ((status ≡ 2) × (IsTrue tells → gate ≡ 1) × ((cut : List ℕ) × (lost : List ℕ) × (text_of (BadJournal 0) ≡ cut ++ lost) × Appends old.written new.written cut
+    ⊎ ((place : ℕ) × (status ≡ 2) × (IsTrue tells → IsBadJournal journal_bytes journal place) × ((cut : List ℕ) × (lost : List ℕ) × (text_of (BadJournal place) ≡ cut ++ lost) × Appends old.written new.written cut
     × ((lost ≡ []) ⊎ (cut ≡ []) ⊎ Rose old.sink_faults new.sink_faults)))
 
--- the store was not opened, and nothing was read
-pub record IsRefused (old new : Outside) (tells : Bool) (gate : ℕ) (marks : List Mark) (status : ℕ) : Type 0 where
+-- The store was not opened, or no memory was found to read a line; nothing was read. It is as settled as before.
+pub record IsRefused (tells : Bool) (entry store : View) (old new : Outside) (before : List HistoryStep) (marks : List Mark) (status : ℕ) : Type 0 where
   pub unread : new.left ≡ old.left
   pub no_read_failed : new.source_faults ≡ old.source_faults
   pub no_marks : marks ≡ []
-  pub refusal : Refusal old new tells gate status
+  pub refusal : Refusal old new tells (entry.content 0) status
+  pub opening : IsTrue tells → IsOpening journal_bytes store entry.moment store.moment before
+  pub settled : IsTrue tells → IsSettled journal_bytes store before
 
--- the world of a fresh store
-abbrev pub fresh_world : World
-fresh_world = new_world []
+-- The store was opened, and a session followed. At its end the store is settled for the last world: for its history, or for
+-- that with the step that is owed.
+pub record IsAnswered (tells : Bool) (budget : ℕ) (entry store : View) (old new : Outside) (before : List HistoryStep) (marks : List Mark) (status : ℕ) : Type 0 where
+  pub found : List HistoryStep
+  pub is_found : IsFound tells before found
+  -- the moment at which it was open
+  pub opened : ℕ
+  pub opening : IsTrue tells → IsOpening journal_bytes store entry.moment opened before
+  pub session : IsSession asks_of (λ w. IsTrue tells → IsSettledAs journal_bytes store w) tells journal_bytes budget store (record old { moment = opened }) new (stage_of found) marks status
+  -- each acknowledged step is held by whatever a crash left since its mark
+  pub acknowledged : IsTrue tells → AreHeld journal_bytes store (stage_after (stage_of found) (session.told ++ session.untold)).world.history marks
+  -- with status 0 what was written is the machine's output for all that was read
+  pub whole : IsTrue tells → status ≡ 0 → IfSome old.left (λ bytes. (length bytes ≤ budget) × Appends old.written new.written (output_of journal_bytes (stage_of found) (asks_of bytes true)))
 
--- this store and these patterns are those of an engine that stands for the world
-abbrev pub AreOfEngine : {B P : Type 0} → B → P → World → Type 0
-AreOfEngine {B} {P} bank patterns w = (engine : Engine B P) × (engine.bank ≡ bank) × (engine.patterns ≡ patterns) × StandsFor engine w
+-- What a call does over a store that was settled for a history; `tells` is whether the store tells its content.
+abbrev pub IsOutcome : Bool → ℕ → View → View → Outside → Outside → List HistoryStep → List Mark → ℕ → Type 0
+IsOutcome tells budget entry store old new before marks status =
+    IsAnswered tells budget entry store old new before marks status ⊎ IsRefused tells entry store old new before marks status
 
--- a session over a store whose first byte is no open gate, or a refusal of the store; `gate` is that byte
-abbrev pub IsOutcome : (World → Type 0) → Bool → ℕ → ℕ → Outside → Outside → List Mark → ℕ → Type 0
-IsOutcome Stands tells gate budget old new marks status =
-    ((IsTrue tells → gate ≢ 1) × IsSession asks_of Stands tells journal_bytes 0 budget old new fresh_world marks status)
-    ⊎ IsRefused old new tells gate marks status
-
--- the causes of a status, and what the statuses 0, 2 and 7 mean
-pub record HasStatus (tells : Bool) (gate budget : ℕ) (old new : Outside) (status : ℕ) : Type 0 where
-  pub bad_journal : status ≡ 2 → IsTrue tells → gate ≡ 1
+-- The causes of a status, over any store, and what the statuses 0 and 7 mean. `journal` is what stands in the journal's area.
+pub record HasStatus (tells : Bool) (journal : Content) (budget : ℕ) (old new : Outside) (status : ℕ) : Type 0 where
+  -- a bad journal is met at opening; at a reopening, which comes after a fault of the store alone, that fault is the first cause
+  pub bad_journal : status ≡ 2 → IsTrue tells → (place : ℕ) × IsBadJournal journal_bytes journal place
   pub bank : status ≡ 3 → Rose old.bank_faults new.bank_faults
   pub source : status ≡ 4 → Rose old.source_faults new.source_faults
   pub sink : status ≡ 5 → Rose old.sink_faults new.sink_faults
   pub over : status ≡ 7 → IfSome old.left (λ bytes. budget < length bytes)
   pub read : status ≡ 0 → IsAtEnd new.left
-  pub whole : status ≡ 0 → IfSome old.left (λ bytes. (length bytes ≤ budget) × Appends old.written new.written (output_of journal_bytes 0 fresh_world (asks_of bytes true)))
-  -- where the store's first byte is an open gate the status is 2, but for a fault of the store and want of memory
-  pub open_gate : IsTrue tells → gate ≡ 1 → (status ≡ 2) ⊎ (status ≡ 9) ⊎ ((status ≡ 3) × Rose old.bank_faults new.bank_faults)
-  -- where no count rose, an input within the budget ends with 0, a longer one with 7, but for an open gate and want of memory
+  -- where the journal is bad the status is 2, but for a fault of the store and want of memory
+  pub refused : IsTrue tells → (place : ℕ) → IsBadJournal journal_bytes journal place → (status ≡ 2) ⊎ (status ≡ 9) ⊎ ((status ≡ 3) × Rose old.bank_faults new.bank_faults)
+  -- where no count rose, an input within the budget ends with 0, a longer one with 7, but for a bad journal and want of memory
   pub complete : (Rose old.bank_faults new.bank_faults → ⊥) → (Rose old.source_faults new.source_faults → ⊥) → (Rose old.sink_faults new.sink_faults → ⊥)
       → IfSome old.left (λ bytes. ((length bytes ≤ budget) → (status ≡ 0) ⊎ (status ≡ 2) ⊎ (status ≡ 9)) × ((budget < length bytes) → (status ≡ 7) ⊎ (status ≡ 2) ⊎ (status ≡ 9)))

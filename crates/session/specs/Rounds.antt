@@ -1,40 +1,49 @@
 -- Rounds: what was asked, what was answered, and what followed from it.
-use Rattle.std.specs.Prelude.{◌≡◌, ◌⊎◌, ◌+◌, ◌≤◌, ℕ, List, [], ◌∷◌, length, map, flat_map, Bool, true, false, cond, nat_eq, Ok, Err}
-use Rattle.records.specs.declared.event.Asked.TheVariants.{One}
+use Rattle.std.specs.Prelude.{◌≡◌, ◌⊎◌, ◌+◌, ◌≤◌, ℕ, max, List, [], ◌∷◌, length, map, flat_map, Bool, true, false, cond, nat_eq, Ok, Err}
+use Rattle.records.specs.declared.event.Asked.TheVariants.{One, At as AskedAt}
 use Rattle.records.specs.declared.reply.LineRefusal.TheVariants.{NotACommand}
 use Rattle.records.specs.declared.reply.Reply.{Reply}
-use Rattle.records.specs.declared.reply.Reply.TheVariants.{Line, BankFault, FolderFault, BadJournal, NoMemory}
+use Rattle.records.specs.declared.reply.Reply.TheVariants.{Line, At, BankFault, FolderFault, BadJournal, NoMemory}
 use Rattle.desk.specs.Texts.{text_of}
-use Rattle.site_history.specs.Worlds.{World, Turn}
+use Rattle.site_history.specs.Worlds.{World, EventTurn}
 use Rattle.session.specs.Asking.{Request}
 use Rattle.session.specs.declared.kept.Mark.{Mark}
 
--- the moment is the store's after the round
+-- where a run stands: the world, and the moment that its events have
+pub record Stage : Type 0 where
+  pub world : World
+  pub now : ℕ
+
+-- `moment` is the store's after the round
 pub record Round : Type 0 where
   pub asked : Request
   pub reply : Reply
-  pub after : World
+  pub after : Stage
   pub moment : ℕ
 
--- nothing was asked of the machine: this is answered, or want of memory, and the world stays
-abbrev pub Answers : Reply → World → Reply → World → Type 0
-Answers told w reply w' = ((reply ≡ told) ⊎ (reply ≡ NoMemory)) × (w' ≡ w)
+-- nothing was asked of the machine: this is answered, or want of memory, and all stays
+abbrev pub Answers : Reply → Stage → Reply → Stage → Type 0
+Answers defined stage reply stage' = ((reply ≡ defined) ⊎ (reply ≡ NoMemory)) × (stage' ≡ stage)
 
--- One round from a world, over a journal of this size. Each event has the moment `now`. An event is a turn of the machine,
--- or its reading found no memory. What is asked otherwise is no command.
-abbrev pub IsRoundOf : ℕ → ℕ → World → Request → Reply → World → Type 0
-IsRoundOf size now w (Err refusal) reply w' = Answers (Line refusal) w reply w'
-IsRoundOf size now w (Ok (One event)) reply w' = ((reply ≡ NoMemory) × (w' ≡ w)) ⊎ ((area : ℕ) × Turn size w event now area reply w')
-IsRoundOf size now w (Ok _) reply w' = Answers (Line NotACommand) w reply w'
+-- One round from a stage, over a journal of this size; `told` is whether the store tells its content. An event is one of the
+-- machine, at the run's moment. `at` moves that moment on. Or no memory was found to read the line. What is asked otherwise
+-- is no command.
+abbrev pub IsRoundOf : ℕ → Bool → Stage → Request → Reply → Stage → Type 0
+IsRoundOf size told stage (Err refusal) reply stage' = Answers (Line refusal) stage reply stage'
+IsRoundOf size told stage (Ok (One event)) reply stage' = ((reply ≡ NoMemory) × (stage' ≡ stage))
+    ⊎ ((area : ℕ) × (w' : World) × EventTurn size told stage.world event stage.now area reply w' × (stage' ≡ record { world = w'; now = stage.now }))
+IsRoundOf size told stage (Ok (AskedAt moment)) reply stage' = ((reply ≡ NoMemory) × (stage' ≡ stage))
+    ⊎ ((reply ≡ At (max moment stage.now)) × (stage' ≡ record { world = stage.world; now = max moment stage.now }))
+IsRoundOf size told stage (Ok _) reply stage' = Answers (Line NotACommand) stage reply stage'
 
 -- each round goes on from where the one before it stopped
-abbrev pub IsRun : ℕ → ℕ → World → List Round → Type 0
-IsRun size now w [] = Unit {0}
-IsRun size now w (round ∷ rounds) = IsRoundOf size now w round.asked round.reply round.after × IsRun size now round.after rounds
+abbrev pub IsRun : ℕ → Bool → Stage → List Round → Type 0
+IsRun size told stage [] = Unit {0}
+IsRun size told stage (round ∷ rounds) = IsRoundOf size told stage round.asked round.reply round.after × IsRun size told round.after rounds
 
-abbrev pub world_after : World → List Round → World
-world_after w [] = w
-world_after w (round ∷ rounds) = world_after round.after rounds
+abbrev pub stage_after : Stage → List Round → Stage
+stage_after stage [] = stage
+stage_after stage (round ∷ rounds) = stage_after round.after rounds
 
 abbrev pub asked : List Round → List Request
 asked rounds = map (λ (round : Round). round.asked) rounds
@@ -50,7 +59,7 @@ AreInTime from (round ∷ rounds) to = (from ≤ round.moment) × AreInTime roun
 
 -- the mark of an answer: how many there are with it, the length of the history after its round, and the store's moment then
 abbrev pub mark_of : ℕ → Round → Mark
-mark_of answered round = record { answered = answered; steps = length round.after.history; moment = round.moment }
+mark_of answered round = record { answered = answered; steps = length round.after.world.history; moment = round.moment }
 
 -- one mark for each round
 abbrev pub marks_from : ℕ → List Round → List Mark
@@ -83,9 +92,9 @@ abbrev pub faults_in : List Round → ℕ
 faults_in [] = 0
 faults_in (round ∷ rounds) = faults_of round.reply + faults_in rounds
 
--- whether an answer ends the run: a fault of the store does
+-- whether an answer ends the run: a bad journal does
 abbrev pub ends_run : Reply → Bool
-ends_run BankFault = true
+ends_run (BadJournal place) = true
 ends_run _ = false
 
 -- none of these rounds ends the run

@@ -1,13 +1,14 @@
 -- A session: from bytes to bytes.
-use Rattle.std.specs.Prelude.{◌≡◌, ◌≤◌, ℕ, List, [], ◌∷◌, ◌++◌, length, take, map, Option, Bool, true, false, IsTrue}
+use Rattle.std.specs.Prelude.{◌≡◌, ◌≤◌, ℕ, List, [], ◌∷◌, ◌++◌, length, take, Option, Bool, true, false, IsTrue}
 use Rattle.std.specs.Io.KnownBytes.{Consumes, Appends, IsAtEnd}
 use Rattle.site_text.specs.Causes.{Rose, AreCounted}
 use Rattle.bank.specs.View.{View}
 use Rattle.input.specs.Reading.{Items}
 use Rattle.site_history.specs.Worlds.{World}
 use Rattle.session.specs.Asking.{Request}
-use Rattle.session.specs.Rounds.{Round, IsRun, world_after, asked, output, AreInTime, marks_from, status_from, faults_in, GoOn, ends_run, calm}
-use Rattle.session.specs.Machine.{told_of, machine_run}
+use Rattle.session.specs.Rounds.{Stage, Round, IsRun, stage_after, asked, output, AreInTime, marks_from, status_from, faults_in, GoOn, ends_run, calm}
+use Rattle.session.specs.Machine.{AreTold, machine_run}
+use Rattle.session.specs.Kept.{AreKept}
 use Rattle.session.specs.declared.kept.Mark.{Mark}
 use Rattle.session.specs.declared.kept.Ending.{Ending}
 use Rattle.session.specs.declared.kept.Ending.TheVariants.{Ended, Closed, SourceFault, SinkFault, OverBudget, NoMemory}
@@ -57,9 +58,10 @@ Ends budget old new read beyond met_end told untold cut unasked SinkFault =
 Ends budget old new read beyond met_end told untold cut unasked NoMemory =
     GoOn told × (beyond ≡ []) × (length untold ≡ 1) × (cut ≡ [])
 
--- A session from a world, over a journal of this size: what was read, asked, answered and written, and what ended it.
--- `Asks` is what a text asks, `Stands` says where the engine stands, and `tells` whether the store tells its content.
-pub record IsSession (Asks : Items Request) (Stands : World → Type 0) (tells : Bool) (size now budget : ℕ) (old new : Outside) (first : World) (marks : List Mark) (status : ℕ) : Type 0 where
+-- A session from a stage, over a journal of this size: what was read, asked, answered and written, what ended it, and what a
+-- crash at any moment left. `Asks` is what a text asks, `Stands` says for which world the store stands at the end, `tells`
+-- whether the store tells its content, and `store` what it tells at the end.
+pub record IsSession (Asks : Items Request) (Stands : World → Type 0) (tells : Bool) (size budget : ℕ) (store : View) (old new : Outside) (first : Stage) (marks : List Mark) (status : ℕ) : Type 0 where
   -- the bytes taken from the source, within the budget and beyond it
   pub read : List ℕ
   pub beyond : List ℕ
@@ -72,8 +74,8 @@ pub record IsSession (Asks : Items Request) (Stands : World → Type 0) (tells :
   pub untold : List Round
   pub unasked : List Request
   pub asks : asked (told ++ untold) ++ unasked ≡ Asks read met_end
-  pub run : IsRun size now first (told ++ untold)
-  pub stands : Stands (world_after first (told ++ untold))
+  pub run : IsRun size tells first (told ++ untold)
+  pub stands : Stands (stage_after first (told ++ untold)).world
   -- what was written
   pub cut : List ℕ
   pub lost : List ℕ
@@ -81,6 +83,8 @@ pub record IsSession (Asks : Items Request) (Stands : World → Type 0) (tells :
   pub written : Appends old.written new.written (output told ++ cut)
   pub marks_told : marks ≡ marks_from 0 told
   pub in_time : IsTrue tells → AreInTime old.moment (told ++ untold) new.moment
+  -- what a crash left at any moment since
+  pub kept : IsTrue tells → AreKept size store old.moment first.world (told ++ untold)
   -- what was counted
   pub counted : AreCounted old.bank_faults (faults_in (told ++ untold)) new.bank_faults
   -- the status
@@ -88,4 +92,4 @@ pub record IsSession (Asks : Items Request) (Stands : World → Type 0) (tells :
   pub ends : Ends budget old new read beyond met_end told untold cut unasked ending
   pub first_cause : status ≡ status_from (told ++ untold) (status_of ending)
   -- up to the first fault or want of memory all answers and worlds are the machine's, for the bytes that were read
-  pub fixed : map told_of (calm (told ++ untold)) ≡ machine_run size now first (take (length (calm (told ++ untold))) (Asks read met_end))
+  pub fixed : AreTold tells (calm (told ++ untold)) (machine_run size first (take (length (calm (told ++ untold))) (Asks read met_end)))

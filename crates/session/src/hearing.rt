@@ -22,7 +22,7 @@ pub enum Heard {
     Stopped(Ending),
 }
 
-/// Reads the next line. A line of over 4,096 bytes is no command.
+/// Reads the next line. A line of over 4,096 bytes is refused as too long.
 pub fn hear<I: Source>(alloc: Global, reader: &mut Reader, input: &mut I) -> Heard
     ensures hears { Hears asks_of (I.left input.old) (I.left input.new) (I.faults input.old) (I.faults input.new) reader.old reader.new result }
     ensures later { I.faults input.old ≤ I.faults input.new }
@@ -36,7 +36,7 @@ pub fn hear<I: Source>(alloc: Global, reader: &mut Reader, input: &mut I) -> Hea
             }
             Heard::Asks(read_line(alloc, line))
         }
-        LineRead::TooLong => Heard::Asks(Err(LineRefusal::NotACommand)),
+        LineRead::TooLong => Heard::Asks(Err(LineRefusal::LineTooLong)),
         LineRead::Ended => Heard::Stopped(Ending::Ended),
         LineRead::SourceFault => Heard::Stopped(Ending::SourceFault),
         LineRead::OverBudget => Heard::Stopped(Ending::OverBudget),

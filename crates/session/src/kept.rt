@@ -13,13 +13,16 @@ pub struct Mark {
     pub moment: u64,
 }
 
-/// A site, the marks of its answers, and the first cause of a status other than 0.
+/// A site, the moment of its events, the marks of its answers, and the first cause of a status other than 0.
 #[derive(Drop)]
 pub struct Session<B, P> {
     pub engine: Engine<B, P>,
+    /// The moment of the events, in seconds. It never goes back.
+    pub moment: u64,
     /// One for each answer that was written whole.
     pub marks: Vec<Mark>,
-    /// 3 where the first cause was a fault of the store, 9 where it was want of memory, and 0 where none came.
+    /// 2 where the first cause was a bad journal, 3 where it was a fault of the store, 9 where it was want of memory, and 0
+    /// where none came.
     pub status: u8,
 }
 
@@ -28,7 +31,7 @@ pub struct Session<B, P> {
 pub enum Ending {
     /// The input's end was met.
     Ended,
-    /// An answer ends a run.
+    /// An answer ends the run: the journal is bad.
     Closed,
     /// The source failed.
     SourceFault,

@@ -1,12 +1,12 @@
 //! One round: what was asked is answered, the answer is written, and a mark is kept.
 
-ghost use Rattle.std.specs.Prelude.{◌≡◌, ◌≤◌, ◌+◌, ◌^◌, [], ◌∷◌, ◌++◌, false, length, IsTrue, None, Option};
+ghost use Rattle.std.specs.Prelude.{◌≡◌, ◌≤◌, ◌+◌, length, IsTrue, Bool};
 ghost use Rattle.site_text.specs.Causes.{AreCounted};
 ghost use Rattle.site_history.specs.Worlds.{World};
-ghost use Rattle.engine.specs.StandsFor.{StandsFor};
+ghost use Rattle.engine.specs.StandsFor.{StandsFor, Moves};
 ghost use Rattle.session.specs.Asking.{Request, reply_to};
 ghost use Rattle.session.specs.Hearing.{IsReadAs};
-ghost use Rattle.session.specs.Rounds.{Round, IsRoundOf, first_of, cause_of, faults_of, ends_run};
+ghost use Rattle.session.specs.Rounds.{Stage, Round, IsRoundOf, first_of, cause_of, faults_of, ends_run};
 ghost use Rattle.session.specs.OneRound.{IsRound, Tells};
 
 use crate::kept::{Ending, Mark, Session};
@@ -35,7 +35,7 @@ fn is_last(reply: &Reply) -> bool
     ensures { result ≡ ends_run reply.now }
 {
     match reply {
-        Reply::BankFault => true,
+        Reply::BadJournal(_) => true,
         _ => false,
     }
 }
@@ -57,40 +57,48 @@ fn refused(refusal: LineRefusal) -> Reply
     }
 }
 
-/// Answers what was asked. Each event has the moment 0.
-fn respond<B: Bank, P: Drop>(engine: &mut Engine<B, P>, asked: Result<Asked, LineRefusal>) -> Reply
-    requires { engine.old.due ≡ false }
-    ensures round { (w : World) → StandsFor engine.old w → (request : Request) → IsReadAs asked request
-        → (w' : World) × IsRoundOf engine.old.journal.size 0 w request result w' × StandsFor engine.new w' }
+/// Answers what was asked. An event has the moment `now`, in seconds; `at` moves that moment on, and never back.
+fn respond<B: Bank, P: Drop>(
+    engine: &mut Engine<B, P>,
+    now: &mut u64,
+    asked: Result<Asked, LineRefusal>,
+) -> Reply
+    ensures round { (told : Bool) → (IsTrue told → IsTrue B.tells) → (stage : Stage) → StandsFor told B.view engine.old stage.world → stage.now ≡ now.old
+        → (request : Request) → IsReadAs asked request
+        → (stage' : Stage) × IsRoundOf engine.old.journal.size told stage request result stage' × Moves told B.view engine.old engine.new stage.world stage'.world × (now.new ≡ stage'.now) }
     ensures counted { AreCounted (B.faults engine.old.bank) (faults_of result) (B.faults engine.new.bank) }
     ensures later { B.faults engine.old.bank ≤ B.faults engine.new.bank }
-    ensures ready { ends_run result ≡ false → engine.new.due ≡ false }
     ensures size { engine.new.journal.size ≡ engine.old.journal.size }
     ensures patterns { engine.new.patterns ≡ engine.old.patterns }
-    ensures moment { IsTrue B.tells → (B.view engine.old.bank).moment ≤ (B.view engine.new.bank).moment }
 {
+    let asked = match asked {
+        Ok(asked) => asked,
+        Err(refusal) => return refused(refusal),
+    };
     match asked {
-        Ok(Asked::One(event)) => engine.event(&event, 0),
-        Ok(_) => Reply::Line(LineRefusal::NotACommand),
-        Err(refusal) => refused(refusal),
+        Asked::One(event) => engine.event(&event, *now),
+        Asked::At(moment) => {
+            *now = moment.max(*now);
+            Reply::At(*now)
+        }
+        _ => Reply::Line(LineRefusal::NotACommand),
     }
 }
 
 /// Answers what was asked, and keeps the first cause of a status.
 fn answer<B: Bank, P: Drop>(session: &mut Session<B, P>, asked: Result<Asked, LineRefusal>) -> Reply
-    requires { session.old.engine.due ≡ false }
-    ensures round { (w : World) → StandsFor session.old.engine w → (request : Request) → IsReadAs asked request
-        → (w' : World) × IsRoundOf session.old.engine.journal.size 0 w request result w' × StandsFor session.new.engine w' }
+    ensures round { (told : Bool) → (IsTrue told → IsTrue B.tells) → (stage : Stage) → StandsFor told B.view session.old.engine stage.world → stage.now ≡ session.old.moment
+        → (request : Request) → IsReadAs asked request
+        → (stage' : Stage) × IsRoundOf session.old.engine.journal.size told stage request result stage'
+        × Moves told B.view session.old.engine session.new.engine stage.world stage'.world × (session.new.moment ≡ stage'.now) }
     ensures counted { AreCounted (B.faults session.old.engine.bank) (faults_of result) (B.faults session.new.engine.bank) }
     ensures later { B.faults session.old.engine.bank ≤ B.faults session.new.engine.bank }
-    ensures ready { ends_run result ≡ false → session.new.engine.due ≡ false }
     ensures size { session.new.engine.journal.size ≡ session.old.engine.journal.size }
     ensures patterns { session.new.engine.patterns ≡ session.old.engine.patterns }
-    ensures moment { IsTrue B.tells → (B.view session.old.engine.bank).moment ≤ (B.view session.new.engine.bank).moment }
     ensures status { session.new.status ≡ first_of session.old.status (cause_of result) }
     ensures marks { session.new.marks ≡ session.old.marks }
 {
-    let reply = respond(&mut session.engine, asked);
+    let reply = respond(&mut session.engine, &mut session.moment, asked);
     session.status = first_cause(session.status, cause(&reply));
     reply
 }
@@ -98,7 +106,7 @@ fn answer<B: Bank, P: Drop>(session: &mut Session<B, P>, asked: Result<Asked, Li
 /// The mark of the next answer.
 fn next_mark<B: Bank, P: Drop>(session: &Session<B, P>) -> Mark
     ensures answered { result.answered ≡ length session.now.marks.items + 1 }
-    ensures steps { (w : World) → StandsFor session.now.engine w → result.steps ≡ length w.history }
+    ensures steps { (told : Bool) (w : World) → StandsFor told B.view session.now.engine w → result.steps ≡ length w.history }
     ensures moment { IsTrue B.tells → result.moment ≡ (B.view session.now.engine.bank).moment }
 {
     Mark {
@@ -146,14 +154,13 @@ pub fn one_round<B: Bank, P: Drop, O: Sink>(
     asked: Result<Asked, LineRefusal>,
     output: &mut O,
 ) -> Option<Ending>
-    requires { session.old.engine.due ≡ false }
-    ensures round { (w : World) → StandsFor session.old.engine w → (request : Request) → IsReadAs asked request → (round : Round)
-        × IsRound (StandsFor session.new.engine) B.tells session.old.engine.journal.size 0 w request
+    ensures round { (told : Bool) → (IsTrue told → IsTrue B.tells) → (stage : Stage) → StandsFor told B.view session.old.engine stage.world → stage.now ≡ session.old.moment
+        → (request : Request) → IsReadAs asked request → (round : Round)
+        × IsRound (StandsFor told B.view session.new.engine) told session.old.engine.journal.size (B.view session.old.engine.bank) (B.view session.new.engine.bank) stage request
         (O.written output.old) (O.written output.new) (O.faults output.old) (O.faults output.new)
         (B.faults session.old.engine.bank) (B.faults session.new.engine.bank)
-        (B.view session.old.engine.bank).moment (B.view session.new.engine.bank).moment
-        session.old.marks.items session.new.marks.items session.old.status session.new.status result round }
-    ensures ready { result ≡ None → session.new.engine.due ≡ false }
+        session.old.marks.items session.new.marks.items session.old.status session.new.status result round
+        × (session.new.moment ≡ round.after.now) }
     ensures size { session.new.engine.journal.size ≡ session.old.engine.journal.size }
     ensures patterns { session.new.engine.patterns ≡ session.old.engine.patterns }
     ensures later { O.faults output.old ≤ O.faults output.new }

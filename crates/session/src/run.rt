@@ -1,14 +1,16 @@
 //! Runs.
 
-ghost use Rattle.std.specs.Prelude.{◌≡◌, ◌≤◌, [], false};
+ghost use Rattle.std.specs.Prelude.{◌≡◌, ◌≢◌, ◌≤◌, [], false, Bool, IsTrue, List as Seq};
 ghost use Rattle.input.specs.Reading.{Begins};
-ghost use Rattle.site_history.specs.Worlds.{World};
+ghost use Rattle.site_history.specs.Steps.{HistoryStep};
+ghost use Rattle.site_history.specs.Images.{IsSettled};
 ghost use Rattle.engine.specs.StandsFor.{StandsFor};
 ghost use Rattle.session.specs.Asking.{asks_of};
-ghost use Rattle.session.specs.Rounds.{first_of};
+ghost use Rattle.session.specs.Rounds.{Stage, first_of};
+ghost use Rattle.session.specs.Kept.{Passes};
 ghost use Rattle.session.specs.Session.{IsSession, seen, status_of};
 ghost use Rattle.session.specs.Refusing.{TellsRefusal, status_of_shut};
-ghost use Rattle.session.specs.Outcomes.{IsOutcome, HasStatus, AreOfEngine};
+ghost use Rattle.session.specs.Outcomes.{journal_bytes, IsOutcome, HasStatus};
 
 use crate::hearing::{Heard, hear};
 use crate::kept::{Ending, Mark, Session};
@@ -28,8 +30,8 @@ const JOURNAL_BYTES: u64 = 268_435_456;
 /// What a run hands back.
 #[derive(Drop)]
 pub struct Outcome<B, P> {
-    /// 0 where the input was read to its end and no answer was a fault or want of memory. Else what came first: 2 for a
-    /// journal that is not empty, 3 for a fault of the store, 4 of the source, 5 of the sink, 7 for an input longer than
+    /// 0 where the input was read to its end and no answer was a fault or want of memory. Else what came first: 2 for a bad
+    /// journal, 3 for a fault of the store, 4 of the source, 5 of the sink, 7 for an input longer than
     /// the budget, 9 for want of memory.
     pub status: u8,
     /// One for each answer that was written whole.
@@ -38,7 +40,7 @@ pub struct Outcome<B, P> {
     pub patterns: P,
 }
 
-/// Answers the lines of an input until it ends, or a cause ends the run.
+/// Answers the lines of an input until it ends, or a cause ends the run. An answer that is a fault of the store ends nothing.
 pub fn converse<B: Bank, P: Drop, I: Source, O: Sink>(
     alloc: Global,
     session: &mut Session<B, P>,
@@ -50,11 +52,15 @@ pub fn converse<B: Bank, P: Drop, I: Source, O: Sink>(
     requires status { session.old.status ≡ 0 }
     requires ready { session.old.engine.due ≡ false }
     requires fresh { Begins reader.old.budget reader.old }
-    ensures session { (w : World) → StandsFor session.old.engine w
-        → IsSession asks_of (StandsFor session.new.engine) B.tells session.old.engine.journal.size 0 reader.old.budget
+    ensures session { (told : Bool) → (IsTrue told → IsTrue B.tells) → (stage : Stage) → StandsFor told B.view session.old.engine stage.world → session.old.moment ≡ stage.now
+        → IsSession asks_of (StandsFor told B.view session.new.engine) told session.old.engine.journal.size reader.old.budget (B.view session.new.engine.bank)
         (seen I.left I.faults O.written O.faults B.faults B.view input.old output.old session.old.engine.bank)
         (seen I.left I.faults O.written O.faults B.faults B.view input.new output.new session.new.engine.bank)
-        w session.new.marks.items (first_of session.new.status (status_of result)) }
+        stage session.new.marks.items (first_of session.new.status (status_of result)) }
+    // Time goes on.
+    ensures passes { (told : Bool) → (IsTrue told → IsTrue B.tells) → (stage : Stage) → StandsFor told B.view session.old.engine stage.world → session.old.moment ≡ stage.now
+        → IsTrue told → Passes (B.view session.old.engine.bank) (B.view session.new.engine.bank) }
+    ensures size { session.new.engine.journal.size ≡ session.old.engine.journal.size }
     ensures source_later { I.faults input.old ≤ I.faults input.new }
     ensures sink_later { O.faults output.old ≤ O.faults output.new }
     ensures bank_later { B.faults session.old.engine.bank ≤ B.faults session.new.engine.bank }
@@ -117,6 +123,7 @@ fn hand_back<B: Bank, P: Drop>(session: Session<B, P>, code: u8) -> Outcome<B, P
         engine,
         marks,
         status,
+        ..
     } = session;
     let (bank, patterns) = engine.close();
     Outcome {
@@ -127,8 +134,9 @@ fn hand_back<B: Bank, P: Drop>(session: Session<B, P>, code: u8) -> Outcome<B, P
     }
 }
 
-/// Answers the lines of an input over a fresh store. At most `budget` bytes are read, and one beyond to see that there
-/// are more. The bank and the patterns are handed back at every status.
+/// Answers the lines of an input over a store, whose site is reopened from its journal. The run begins at the moment of the
+/// site's last step. At most `budget` bytes are read, and one beyond to see that there are more. The bank and the patterns
+/// are handed back at every status.
 pub fn run_lines<B: Bank, C: Clock, F: Folder, P: Patterns, I: Source, O: Sink>(
     alloc: Global,
     bank: B,
@@ -139,16 +147,20 @@ pub fn run_lines<B: Bank, C: Clock, F: Folder, P: Patterns, I: Source, O: Sink>(
     output: &mut O,
     budget: u64,
 ) -> Outcome<B, P>
-    // What was read, asked, answered and written, and what ended the run.
-    ensures outcome { IsOutcome (AreOfEngine result.bank result.patterns) B.tells ((B.view bank).content 0 0) budget
+    // Over a store that is settled for a history, or over any store that tells nothing: what was read, asked, answered and
+    // written, what ended the run, and what each crash meanwhile may leave.
+    ensures outcome { (told : Bool) → (IsTrue told → IsTrue B.tells) → (before : Seq HistoryStep) → (IsTrue told → IsSettled journal_bytes (B.view bank) before)
+        → IsOutcome told budget (B.view bank) (B.view result.bank)
         (seen I.left I.faults O.written O.faults B.faults B.view input.old output.old bank)
         (seen I.left I.faults O.written O.faults B.faults B.view input.new output.new result.bank)
-        result.marks result.status }
-    // The causes of the status, and what the statuses 0, 2 and 7 mean.
-    ensures status { HasStatus B.tells ((B.view bank).content 0 0) budget
+        before result.marks result.status }
+    // The causes of the status, over any store, and what the statuses 0, 2 and 7 mean.
+    ensures status { HasStatus B.tells ((B.view bank).content 0) budget
         (seen I.left I.faults O.written O.faults B.faults B.view input.old output.old bank)
         (seen I.left I.faults O.written O.faults B.faults B.view input.new output.new result.bank)
         result.status }
+    // The journal of a settled store is never bad.
+    ensures good { IsTrue B.tells → (before : Seq HistoryStep) → IsSettled journal_bytes (B.view bank) before → result.status ≢ 2 }
     ensures patterns { result.patterns ≡ patterns }
     ensures clock { clock.new ≡ clock.old }
     ensures folder { folder.new ≡ folder.old }
@@ -174,8 +186,10 @@ pub fn run_lines<B: Bank, C: Clock, F: Folder, P: Patterns, I: Source, O: Sink>(
             };
         }
     };
+    let moment = engine.clock;
     let mut session = Session {
         engine,
+        moment,
         marks: Vec::new(alloc),
         status: 0,
     };

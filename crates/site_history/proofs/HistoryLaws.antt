@@ -1,5 +1,6 @@
--- A history and one step more.
-use Rattle.std.proofs.Common.{◌≡◌, ◌+◌, List, [], ◌∷◌, ◌++◌, length, refl, arith, length-append}
+-- A history and one step more. `after-push`, `history-push`, `journal_length-push` and `length-push` serve each exit that
+-- acknowledges a step; `history-keeps` and `history-counts` carry what each legal step keeps over a history.
+use Rattle.std.proofs.Common.{◌≡◌, ℕ, ◌+◌, ◌*◌, ◌≤◌, List, [], ◌∷◌, ◌++◌, length, refl, subst, arith, length-append}
 use Rattle.records.specs.Written.{written}
 use Rattle.site_history.specs.Site.{Site, first_site}
 use Rattle.site_history.specs.Steps.{HistoryStep, effect, IsLegal, HasBytes}
@@ -9,6 +10,7 @@ after_from-push : (site : Site) (steps : List HistoryStep) (made : HistoryStep) 
 after_from-push site [] made = refl
 after_from-push site (s ∷ steps) made = after_from-push (effect s site) steps made
 
+-- the site after one step more is that step's effect
 pub after-push : (steps : List HistoryStep) (made : HistoryStep) → after (steps ++ made ∷ []) ≡ effect made (after steps)
 after-push steps made = after_from-push first_site steps made
 
@@ -16,15 +18,30 @@ history_from-push : (site : Site) (steps : List HistoryStep) (made : HistoryStep
 history_from-push site [] made h legal bytes = (legal, bytes, tt)
 history_from-push site (s ∷ steps) made h legal bytes = (h.0, h.1, history_from-push (effect s site) steps made h.2 legal bytes)
 
+-- a record takes 5 bytes at least, so that a journal's size bounds the number of steps
+pub journal_length-least : (steps : List HistoryStep) → 5 * length steps ≤ journal_length steps
+journal_length-least [] = omega arith
+journal_length-least (s ∷ steps) = omega (arith, journal_length-least steps)
+
+-- a history and a legal step are a history
 pub history-push : (steps : List HistoryStep) (made : HistoryStep) → IsHistory steps → IsLegal (after steps).fields made.step → HasBytes made → IsHistory (steps ++ made ∷ [])
 history-push steps made h legal bytes = history_from-push first_site steps made h legal bytes
 
+-- its record makes the journal longer by a gate, a length and its written form
 pub journal_length-push : (steps : List HistoryStep) (made : HistoryStep) → journal_length (steps ++ made ∷ []) ≡ journal_length steps + (5 + length (written made.step))
 journal_length-push [] made = omega arith
 journal_length-push (s ∷ steps) made = omega (arith, journal_length-push steps made)
 
 pub length-push : (steps : List HistoryStep) (made : HistoryStep) → length (steps ++ made ∷ []) ≡ length steps + 1
 length-push steps made = length-append steps (made ∷ [])
+
+history_from-front : (site : Site) (steps : List HistoryStep) (made : HistoryStep) → IsHistoryFrom site (steps ++ made ∷ []) → IsHistoryFrom site steps × IsLegal (after_from site steps).fields made.step × HasBytes made
+history_from-front site [] made h = (tt, h.0, h.1)
+history_from-front site (s ∷ steps) made h = let rest = history_from-front (effect s site) steps made h.2 in ((h.0, h.1, rest.0), rest.1, rest.2)
+
+-- a history without its last step is one, and that step is legal behind it
+pub history-front : (steps : List HistoryStep) (made : HistoryStep) → IsHistory (steps ++ made ∷ []) → IsHistory steps × IsLegal (after steps).fields made.step × HasBytes made
+history-front steps made h = history_from-front first_site steps made h
 
 -- what holds of the first site, and of the site after a legal step, holds after a history
 history_from-keeps : (P : Site → Type 0) → ((site : Site) (made : HistoryStep) → P site → IsLegal site.fields made.step → P (effect made site))
@@ -35,3 +52,18 @@ history_from-keeps P step site (s ∷ steps) p h = history_from-keeps P step (ef
 pub history-keeps : (P : Site → Type 0) → P first_site → ((site : Site) (made : HistoryStep) → P site → IsLegal site.fields made.step → P (effect made site))
     → (steps : List HistoryStep) → IsHistory steps → P (after steps)
 history-keeps P first step steps h = history_from-keeps P step first_site steps first h
+
+-- the same of what counts the steps, and asks for their bytes
+history_from-counts : (P : ℕ → Site → Type 0)
+    → ((count : ℕ) (site : Site) (made : HistoryStep) → P count site → IsLegal site.fields made.step → HasBytes made → P (count + 1) (effect made site))
+    → (count : ℕ) (site : Site) (steps : List HistoryStep) → P count site → IsHistoryFrom site steps → P (count + length steps) (after_from site steps)
+history_from-counts P step count site [] p h = subst (λ (n : ℕ). P n site) (let e : count ≡ count + 0 = omega arith in e) p
+history_from-counts P step count site (s ∷ steps) p h =
+    subst (λ (n : ℕ). P n (after_from (effect s site) steps)) (let e : count + 1 + length steps ≡ count + length (s ∷ steps) = omega arith in e)
+    (history_from-counts P step (count + 1) (effect s site) steps (step count site s p h.0 h.1) h.2)
+
+pub history-counts : (P : ℕ → Site → Type 0) → P 0 first_site
+    → ((count : ℕ) (site : Site) (made : HistoryStep) → P count site → IsLegal site.fields made.step → HasBytes made → P (count + 1) (effect made site))
+    → (steps : List HistoryStep) → IsHistory steps → P (length steps) (after steps)
+history-counts P first step steps h =
+    subst (λ (n : ℕ). P n (after steps)) (let e : 0 + length steps ≡ length steps = omega arith in e) (history_from-counts P step 0 first_site steps first h)

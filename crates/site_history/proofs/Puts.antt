@@ -1,78 +1,103 @@
--- A put that no rule refuses is legal.
-use Rattle.std.proofs.Common.{◌≡◌, ℕ, ◌<◌, ◌≤◌, List, length, refl, sym, ap, subst, arith, Bool, true, false, cond, Option, Some, None}
-use Rattle.std.specs.Prelude.{is_some, ◌&&◌, ◌||◌, not, nat_le, nat_lt, MatchOption}
+-- A put that no rule refuses is legal. `admitted` says what is known then, `put_legal` that its step may come, `put_has_bytes`
+-- that its bytes are those it says.
+use Rattle.std.proofs.Common.{◌≡◌, ℕ, ◌<◌, ◌≤◌, ◌^◌, List, length, refl, arith, Bool, true, false, cond, Option, Some, None}
+use Rattle.std.specs.Prelude.{is_none, ◌&&◌, ◌||◌, not, nat_le, nat_lt, MatchOption, IsTrue}
 use Rattle.std.specs.Option.{option_map_or}
 use Rattle.std.proofs.lemmas.Bool.Decides.{nat_tests}
 use Rattle.records.specs.declared.file.FileRec.{FileRec}
-use Rattle.records.specs.declared.reply.Rule.TheVariants.{BadPath, BadAttribute, Exists, TooLarge, TooMany, NoSpace}
+use Rattle.records.specs.declared.reply.Rule.TheVariants.{BadPath, BadAttribute, TooLarge, TooMany, NoSpace}
 use Rattle.records.specs.Paths.{is_legal_path, is_legal_name}
-use Rattle.cache_space.specs.Blocks.{blocks_for, free_blocks}
-use Rattle.cache_space.proofs.LowestRuns.{lowest_runs-maximal, lowest_runs-free, blocks_in-lowest_runs}
-use Rattle.site_history.specs.Site.{Fields, file_at, held_runs}
-use Rattle.site_history.specs.Steps.{IsLegal, inode_for}
-use Rattle.site_history.specs.Answers.{put_rule, put_made, is_full, lacks_space}
+use Rattle.records.specs.Ranges.{IsInode}
+use Rattle.cache_space.specs.Blocks.{blocks_for, free_blocks, lowest_runs}
+use Rattle.cache_space.proofs.LowestRuns.{lowest_runs-maximal, lowest_runs-free, blocks_in-lowest_runs, lowest_runs-there}
+use Rattle.site_history.specs.Site.{Fields, Site, file_at, held_runs}
+use Rattle.site_history.specs.Steps.{IsLegalPut, IsLegal, HasBytes, inode_for}
+use Rattle.site_history.specs.Answers.{put_rule, put_for, put_made, put_step, is_full, lacks_space}
+use Rattle.site_history.proofs.RunRanges.{lowest_runs-few, maximal-small}
+use Rattle.site_history.proofs.StepRanges.{put_in_range}
+use Rattle.site_history.proofs.SiteLaws.{IsOrderly, found-file}
 
--- what is known where no rule refuses
+-- what is known where no rule refuses: a new file fits
 pub record IsAdmitted (fields : Fields) (path owner group : List ℕ) (size : ℕ) : Type 0 where
-  pub legal_path : is_legal_path path ≡ true
-  pub legal_owner : is_legal_name owner ≡ true
-  pub legal_group : is_legal_name group ≡ true
-  pub new : file_at path fields.files ≡ None
+  pub legal_path : IsTrue (is_legal_path path)
+  pub legal_owner : IsTrue (is_legal_name owner)
+  pub legal_group : IsTrue (is_legal_name group)
   pub small : size ≤ 16777216
-  pub few : length fields.files < 16384
-  pub inode : fields.next_inode ≤ 4294967294
+  pub fits : MatchOption (file_at path fields.files) ((length fields.files < 65536) × (fields.next_inode ≤ 4294967294)) (λ _. Unit {0})
   pub space : blocks_for size ≤ length (free_blocks fields.blocks (held_runs fields.files))
 
-none_of : {X : Type 0} (o : Option X) → is_some o ≡ false → o ≡ None
-none_of None e = refl
-none_of (Some x) e = absurd (let no : true ≡ false = e in cc)
+fits_by : (fields : Fields) (o : Option FileRec) → (is_none o && is_full fields) ≡ false → MatchOption o ((length fields.files < 65536) × (fields.next_inode ≤ 4294967294)) (λ _. Unit {0})
+fits_by fields None e =
+    let many : nat_le 65536 (length fields.files) || nat_lt 4294967294 fields.next_inode ≡ false = e in
+    (grind (arith, nat_tests, many), grind (arith, nat_tests, many))
+fits_by fields (Some file) e = tt
 
 -- the tests one by one
-admitted_by : (fields : Fields) (path owner group : List ℕ) (size : ℕ) (tp to tg there large many lacking : Bool)
-    → is_legal_path path ≡ tp → is_legal_name owner ≡ to → is_legal_name group ≡ tg → is_some (file_at path fields.files) ≡ there
-    → nat_lt 16777216 size ≡ large → is_full fields ≡ many → lacks_space fields size ≡ lacking
-    → cond (not tp) (Some BadPath) (cond (not (to && tg)) (Some BadAttribute) (cond there (Some Exists)
-    (cond large (Some TooLarge) (cond many (Some TooMany) (cond lacking (Some NoSpace) None))))) ≡ None
+admitted_by : (fields : Fields) (path owner group : List ℕ) (size : ℕ) (tp to tg large many lacking : Bool)
+    → is_legal_path path ≡ tp → is_legal_name owner ≡ to → is_legal_name group ≡ tg
+    → nat_lt 16777216 size ≡ large → (is_none (file_at path fields.files) && is_full fields) ≡ many → lacks_space fields size ≡ lacking
+    → cond (not tp) (Some BadPath) (cond (not (to && tg)) (Some BadAttribute)
+    (cond large (Some TooLarge) (cond many (Some TooMany) (cond lacking (Some NoSpace) None)))) ≡ None
     → IsAdmitted fields path owner group size
-admitted_by fields path owner group size true true true false false false false p o g t l m s e =
-    let many : nat_le 16384 (length fields.files) || nat_lt 4294967294 fields.next_inode ≡ false = m in
-    record {
-      legal_path = p;
-      legal_owner = o;
-      legal_group = g;
-      new = none_of (file_at path fields.files) t;
-      small = grind (arith, nat_tests, l);
-      few = grind (arith, nat_tests, many);
-      inode = grind (arith, nat_tests, many);
-      space = grind (arith, nat_tests, s);
-    }
-admitted_by fields path owner group size false o g t l m s ep eo eg et el em es e = absurd (cc)
-admitted_by fields path owner group size true false g t l m s ep eo eg et el em es e = absurd (cc)
-admitted_by fields path owner group size true true false t l m s ep eo eg et el em es e = absurd (cc)
-admitted_by fields path owner group size true true true true l m s ep eo eg et el em es e = absurd (cc)
-admitted_by fields path owner group size true true true false true m s ep eo eg et el em es e = absurd (cc)
-admitted_by fields path owner group size true true true false false true s ep eo eg et el em es e = absurd (cc)
-admitted_by fields path owner group size true true true false false false true ep eo eg et el em es e = absurd (cc)
+admitted_by fields path owner group size true true true false false false p o g l m s e = record {
+  legal_path = p;
+  legal_owner = o;
+  legal_group = g;
+  small = grind (arith, nat_tests, l);
+  fits = fits_by fields (file_at path fields.files) m;
+  space = grind (arith, nat_tests, s);
+}
+admitted_by fields path owner group size false o g l m s ep eo eg el em es e = absurd (cc)
+admitted_by fields path owner group size true false g l m s ep eo eg el em es e = absurd (cc)
+admitted_by fields path owner group size true true false l m s ep eo eg el em es e = absurd (cc)
+admitted_by fields path owner group size true true true true m s ep eo eg el em es e = absurd (cc)
+admitted_by fields path owner group size true true true false true s ep eo eg el em es e = absurd (cc)
+admitted_by fields path owner group size true true true false false true ep eo eg el em es e = absurd (cc)
 
+-- the inode of a put
+inode_by : (count : ℕ) (site : Site) (path : List ℕ) (o : Option FileRec) → IsOrderly count site → file_at path site.fields.files ≡ o
+    → MatchOption o ((length site.fields.files < 65536) × (site.fields.next_inode ≤ 4294967294)) (λ _. Unit {0})
+    → IsInode (option_map_or (λ (file : FileRec). file.inode) o site.fields.next_inode)
+inode_by count site path None orderly e fits = (orderly.from_one, fits.1)
+inode_by count site path (Some file) orderly e fits = (found-file count site orderly path file e).0.inode
+
+-- what of a put is known of any site
 module _ (fields : Fields) (path owner group : List ℕ) (size : ℕ) where
   pub admitted : put_rule fields path owner group size ≡ None → IsAdmitted fields path owner group size
-  admitted e = admitted_by fields path owner group size _ _ _ _ _ _ _ refl refl refl refl refl refl refl e
+  admitted e = admitted_by fields path owner group size _ _ _ _ _ _ refl refl refl refl refl refl e
 
-  pub inode_for-new : IsAdmitted fields path owner group size → inode_for fields path ≡ fields.next_inode
-  inode_for-new a = ap (λ (o : Option FileRec). option_map_or (λ (file : FileRec). file.inode) o fields.next_inode) a.new
+  -- the put meets its rule
+  pub put_for_legal : IsAdmitted fields path owner group size → IsLegalPut fields (put_for fields path owner group size)
+  put_for_legal a = record {
+    path = a.legal_path;
+    owner = a.legal_owner;
+    group = a.legal_group;
+    small = a.small;
+    inode = refl;
+    fits = a.fits;
+    maximal = lowest_runs-maximal fields.blocks (held_runs fields.files) (blocks_for size);
+    free = lowest_runs-free fields.blocks (held_runs fields.files) (blocks_for size);
+    blocks = blocks_in-lowest_runs fields.blocks (held_runs fields.files) (blocks_for size) a.space;
+  }
 
-  pub put_legal : (moment : ℕ) → IsAdmitted fields path owner group size → fields.moment ≤ moment → IsLegal fields (put_made fields moment path owner group size)
-  put_legal moment a later = (
-    later,
-    record {
-      path = a.legal_path;
-      owner = a.legal_owner;
-      group = a.legal_group;
-      small = a.small;
-      inode = refl;
-      fits = subst (λ (o : Option FileRec). MatchOption o ((length fields.files < 65536) × (fields.next_inode ≤ 4294967294)) (λ _. Unit {0})) (sym a.new) (omega (arith, a.few), a.inode);
-      maximal = lowest_runs-maximal fields.blocks (held_runs fields.files) (blocks_for size);
-      free = lowest_runs-free fields.blocks (held_runs fields.files) (blocks_for size);
-      blocks = blocks_in-lowest_runs fields.blocks (held_runs fields.files) (blocks_for size) a.space;
-    },
-  )
+-- in a site after some history
+module _ (count : ℕ) (site : Site) (orderly : IsOrderly count site) (path owner group : List ℕ) (size : ℕ) (rule : put_rule site.fields path owner group size ≡ None) where
+  -- its inode is a number from 1 to 4,294,967,294
+  pub put_inode : IsInode (inode_for site.fields path)
+  put_inode = inode_by count site path (file_at path site.fields.files) orderly refl (admitted site.fields path owner group size rule).fits
+
+  -- its step may come
+  pub put_legal : (moment : ℕ) → site.fields.moment ≤ moment → moment < 2 ^ 40 → IsLegal site.fields (put_made site.fields moment path owner group size)
+  put_legal moment later range =
+      let a = admitted site.fields path owner group size rule in (
+        put_in_range (put_for site.fields path owner group size) a.small a.legal_path a.legal_owner a.legal_group
+            (lowest_runs-few site.fields.blocks (held_runs site.fields.files) (blocks_for size)) moment range put_inode
+            (maximal-small site.fields.blocks (lowest_runs site.fields.blocks (held_runs site.fields.files) (blocks_for size)) (omega (arith, orderly.blocks))
+            (lowest_runs-maximal site.fields.blocks (held_runs site.fields.files) (blocks_for size)) (lowest_runs-there site.fields.blocks (held_runs site.fields.files) (blocks_for size))),
+        later,
+        put_for_legal site.fields path owner group size a,
+      )
+
+-- it comes with as many bytes as it says
+pub put_has_bytes : (fields : Fields) (moment : ℕ) (path owner group bytes : List ℕ) → HasBytes (put_step fields moment path owner group bytes)
+put_has_bytes fields moment path owner group bytes = refl

@@ -1,42 +1,186 @@
--- What is answered to a put.
-use Rattle.std.proofs.Common.{◌≡◌, ℕ, ◌+◌, ◌<◌, ◌≤◌, List, length, ◌∙◌, ap, arith, Bool, true, false, cond, Option, Some, None}
-use Rattle.std.specs.Prelude.{nat_le}
-use Rattle.records.specs.declared.event.Event.TheVariants.{Put as PutEvent}
-use Rattle.records.specs.declared.reply.Reply.TheVariants.{JournalFull}
+-- What one event does to a history, in the form of a turn: a lemma for each exit of the code that serves it. First what the
+-- answer to the event is (`put-refused`, `put-stored`, `read-missing`, `read-found`, `remove-missing`, `remove-found`,
+-- `other-answer`), and from that the turn: `refused-turn` and `line-turn` where no step is made, `full-turn` where the journal
+-- has no room, `made-turn` where the step is acknowledged, `owes-turn` where the journal failed, `stays-turn` where another area
+-- did, `memory-turn` where memory was wanting.
+use Rattle.std.proofs.Common.{◌≡◌, ℕ, ◌+◌, ◌<◌, ◌≤◌, List, [], ◌∷◌, ◌++◌, length, take, refl, sym, ◌∙◌, ap, subst, arith, Bool, true, false, cond, Option, Some, None}
+use Rattle.std.specs.Prelude.{is_none, IsTrue}
+use Rattle.std.proofs.lemmas.Bool.{le-leb, lt-leb, eq-eqb, ne_eqb}
+use Rattle.records.specs.declared.event.Event.{Event}
+use Rattle.records.specs.declared.event.Event.TheVariants.{Put as PutEvent, Read as ReadEvent, Remove as RemoveEvent}
+use Rattle.records.specs.declared.reply.Reply.{Reply}
+use Rattle.records.specs.declared.reply.Reply.TheVariants.{Stored, Done, Bytes, Refused, Line, NoMemory, JournalFull, BankFault}
 use Rattle.records.specs.declared.reply.Rule.{Rule}
+use Rattle.records.specs.declared.reply.Rule.TheVariants.{NoFile}
+use Rattle.records.specs.declared.reply.LineRefusal.TheVariants.{NotACommand}
+use Rattle.records.specs.declared.file.FileRec.{FileRec}
+use Rattle.records.specs.declared.step.StepKind.{StepKind}
+use Rattle.records.specs.declared.step.StepKind.TheVariants.{Put, Accessed, Removed}
 use Rattle.records.specs.Written.{written}
-use Rattle.site_history.specs.Site.{Fields}
-use Rattle.site_history.specs.Steps.{HistoryStep}
+use Rattle.site_history.specs.Site.{Site, file_at, bytes_of}
+use Rattle.site_history.specs.Steps.{HistoryStep, IsLegal, inode_for, effect}
 use Rattle.site_history.specs.Histories.{after, journal_length}
-use Rattle.site_history.specs.Answers.{Answer, refused, put_rule, put_step, put_answer_by}
-use Rattle.site_history.specs.Worlds.{has_room, answer_in}
+use Rattle.site_history.specs.Answers.{Answer, refused, put_rule, put_step, put_answer_by, read_answer_of, remove_answer_of, bare_step, answer_to}
+use Rattle.site_history.specs.Worlds.{World, at, has_room, answer_in, with_step, IsReply, Course, Goes, Stays, Owes, course_of, TurnBy, Turn}
+use Rattle.site_history.proofs.HistoryLaws.{after-push}
 
-module _ (size : ℕ) (history : List HistoryStep) (moment : ℕ) (path owner group bytes : List ℕ) where
-  fields : Fields
-  fields = (after history).fields
+-- The answers.
 
-  roomed : Bool → Answer → Answer
-  roomed b answer = cond b answer (record { reply = JournalFull; step = None })
+module _ (site : Site) (moment : ℕ) (path : List ℕ) where
+  -- a rule refuses a put
+  pub put-refused : (owner group bytes : List ℕ) (rule : Rule) → put_rule site.fields path owner group (length bytes) ≡ Some rule
+      → answer_to site moment (PutEvent path owner group bytes) ≡ refused rule
+  put-refused owner group bytes rule e = ap (λ (o : Option Rule). put_answer_by o site.fields moment path owner group bytes) e
 
-  pub answer_refused : (rule : Rule) → put_rule (after history).fields path owner group (length bytes) ≡ Some rule
-      → answer_in size history moment (PutEvent path owner group bytes) ≡ refused rule
-  answer_refused rule e = ap (λ (o : Option Rule). cond (has_room size history (put_answer_by o (after history).fields moment path owner group bytes).step)
-      (put_answer_by o (after history).fields moment path owner group bytes) (record { reply = JournalFull; step = None })) e
+  -- no rule does
+  pub put-stored : (owner group bytes : List ℕ) → put_rule site.fields path owner group (length bytes) ≡ None
+      → answer_to site moment (PutEvent path owner group bytes)
+      ≡ record { reply = Stored (inode_for site.fields path) (is_none (file_at path site.fields.files)); step = Some (put_step site.fields moment path owner group bytes) }
+  put-stored owner group bytes e = ap (λ (o : Option Rule). put_answer_by o site.fields moment path owner group bytes) e
 
-  by_none : (b : Bool) → put_rule (after history).fields path owner group (length bytes) ≡ None
-      → nat_le (journal_length history + 6 + length (written (put_step (after history).fields moment path owner group bytes).step)) size ≡ b
-      → answer_in size history moment (PutEvent path owner group bytes)
-      ≡ cond b (put_answer_by None (after history).fields moment path owner group bytes) (record { reply = JournalFull; step = None })
-  by_none b e room = ap (λ (o : Option Rule). cond (has_room size history (put_answer_by o (after history).fields moment path owner group bytes).step)
-      (put_answer_by o (after history).fields moment path owner group bytes) (record { reply = JournalFull; step = None })) e
-      ∙ ap (λ (b : Bool). cond b (put_answer_by None (after history).fields moment path owner group bytes) (record { reply = JournalFull; step = None })) room
+  -- a read of a path that is no file's, and of one that is
+  pub read-missing : (upto : ℕ) → file_at path site.fields.files ≡ None → answer_to site moment (ReadEvent path upto) ≡ refused NoFile
+  read-missing upto e = ap (λ (o : Option FileRec). read_answer_of o site.contents moment upto) e
 
-  pub answer_stored : put_rule (after history).fields path owner group (length bytes) ≡ None
-      → journal_length history + 6 + length (written (put_step (after history).fields moment path owner group bytes).step) ≤ size
-      → answer_in size history moment (PutEvent path owner group bytes) ≡ put_answer_by None (after history).fields moment path owner group bytes
-  answer_stored e fits = by_none true e (grind (arith, fits))
+  pub read-found : (upto : ℕ) (file : FileRec) → file_at path site.fields.files ≡ Some file
+      → answer_to site moment (ReadEvent path upto) ≡ record { reply = Bytes (take upto (bytes_of site.contents file.inode)); step = Some (bare_step moment (Accessed file.inode)) }
+  read-found upto file e = ap (λ (o : Option FileRec). read_answer_of o site.contents moment upto) e
 
-  pub answer_full : put_rule (after history).fields path owner group (length bytes) ≡ None
-      → size < journal_length history + 6 + length (written (put_step (after history).fields moment path owner group bytes).step)
-      → answer_in size history moment (PutEvent path owner group bytes) ≡ record { reply = JournalFull; step = None }
-  answer_full e full = by_none false e (grind (arith, full))
+  -- a removal
+  pub remove-missing : file_at path site.fields.files ≡ None → answer_to site moment (RemoveEvent path) ≡ refused NoFile
+  remove-missing e = ap (λ (o : Option FileRec). remove_answer_of o moment) e
+
+  pub remove-found : (file : FileRec) → file_at path site.fields.files ≡ Some file
+      → answer_to site moment (RemoveEvent path) ≡ record { reply = Done file.inode; step = Some (bare_step moment (Removed file.inode)) }
+  remove-found file e = ap (λ (o : Option FileRec). remove_answer_of o moment) e
+
+-- no command
+abbrev pub no_command : Answer
+no_command = record { reply = Line NotACommand; step = None }
+
+-- an event of another kind
+pub other-answer : (site : Site) (moment : ℕ) (event : Event) → ((path owner group bytes : List ℕ) → event ≡ PutEvent path owner group bytes → ⊥)
+    → ((path : List ℕ) (upto : ℕ) → event ≡ ReadEvent path upto → ⊥) → ((path : List ℕ) → event ≡ RemoveEvent path → ⊥) → answer_to site moment event ≡ no_command
+other-answer site moment (PutEvent path owner group bytes) put read remove = absurd (put path owner group bytes refl)
+other-answer site moment (ReadEvent path upto) put read remove = absurd (read path upto refl)
+other-answer site moment (RemoveEvent path) put read remove = absurd (remove path refl)
+other-answer site moment _ put read remove = refl
+
+-- The answer of a journal with and without room.
+
+abbrev full_answer : Answer
+full_answer = record { reply = JournalFull; step = None }
+
+abbrev roomed : ℕ → List HistoryStep → Answer → Answer
+roomed size history answer = cond (has_room size history answer.step) answer full_answer
+
+module _ (size : ℕ) (history : List HistoryStep) (answer : Answer) where
+  without_step : answer.step ≡ None → roomed size history answer ≡ answer
+  without_step e = ap (λ (o : Option HistoryStep). cond (has_room size history o) answer full_answer) e
+
+  module _ (made : HistoryStep) (e : answer.step ≡ Some made) where
+    with_room : journal_length history + 6 + length (written made.step) ≤ size → roomed size history answer ≡ answer
+    with_room fits =
+        ap (λ (o : Option HistoryStep). cond (has_room size history o) answer full_answer) e
+        ∙ ap (λ (b : Bool). cond b answer full_answer) (le-leb (journal_length history + 6 + length (written made.step)) size fits)
+
+    without_room : size < journal_length history + 6 + length (written made.step) → roomed size history answer ≡ full_answer
+    without_room full =
+        ap (λ (o : Option HistoryStep). cond (has_room size history o) answer full_answer) e
+        ∙ ap (λ (b : Bool). cond b answer full_answer) (lt-leb (journal_length history + 6 + length (written made.step)) size full)
+
+-- The replies.
+
+-- the reply that is defined
+pub is_reply : (told : Bool) (defined reply : Reply) → reply ≡ defined → IsReply told defined reply
+is_reply true defined reply e = e
+is_reply false (Bytes bytes) reply e = (bytes, e, refl)
+is_reply false _ reply e = e
+
+-- bytes that were read: those of the file where the store tells its content, and as many in any case
+pub is_reply-bytes : (told : Bool) (defined bytes : List ℕ) → (IsTrue told → bytes ≡ defined) → length bytes ≡ length defined → IsReply told (Bytes defined) (Bytes bytes)
+is_reply-bytes true defined bytes same as_many = ap (λ (l : List ℕ). Bytes l) (same refl)
+is_reply-bytes false defined bytes same as_many = (bytes, refl, as_many)
+
+-- The turns.
+
+-- the world that owes a step
+abbrev pub owing : List HistoryStep → ℕ → HistoryStep → World
+owing history moment made = record { history = history; clock = moment; due = true; owed = Some made }
+
+module _ (size : ℕ) (told : Bool) (history : List HistoryStep) (event : Event) (moment area : ℕ) where
+  goes : (answer : Answer) (reply : Reply) → roomed size history (answer_to (after history) moment event) ≡ answer → IsReply told answer.reply reply
+      → TurnBy Goes told (answer_in size history moment event) history moment reply (at (with_step history answer.step) moment)
+  goes answer reply e is = (
+    subst (λ (a : Answer). IsReply told a.reply reply) (sym e) is,
+    ap (λ (a : Answer). at (with_step history a.step) moment) (sym e),
+  )
+
+  -- a rule refuses the event
+  pub refused-turn : (rule : Rule) → answer_to (after history) moment event ≡ refused rule → Turn size told history event moment area (Refused rule) (at history moment)
+  refused-turn rule e = goes (refused rule) (Refused rule)
+      (ap (λ (a : Answer). roomed size history a) e ∙ without_step size history (refused rule) refl) (is_reply told (Refused rule) (Refused rule) refl)
+
+  -- it is no command
+  pub line-turn : answer_to (after history) moment event ≡ no_command → Turn size told history event moment area (Line NotACommand) (at history moment)
+  line-turn e = goes no_command (Line NotACommand)
+      (ap (λ (a : Answer). roomed size history a) e ∙ without_step size history no_command refl) (is_reply told (Line NotACommand) (Line NotACommand) refl)
+
+  -- memory was wanting
+  pub memory-turn : Turn size told history event moment area NoMemory (at history moment)
+  memory-turn = refl
+
+  -- another area than the journal failed
+  pub stays-turn : (area ≡ 0 → ⊥) → Turn size told history event moment area BankFault (at history moment)
+  stays-turn other = subst (λ (c : Course). TurnBy c told (answer_in size history moment event) history moment BankFault (at history moment))
+      (ap (λ (b : Bool). cond b Owes Stays) (sym (ne_eqb area 0 other))) refl
+
+  -- a step is answered, and its record is behind those of the history; the place and the payload are those of the code
+  module _ (defined : Reply) (made : HistoryStep) (answered : answer_to (after history) moment event ≡ record { reply = defined; step = Some made })
+      (place : ℕ) (payload : List ℕ) (at_end : place ≡ journal_length history) (form : payload ≡ written made.step) where
+    abbrev answer : Answer
+    answer = record { reply = defined; step = Some made }
+
+    -- the journal has no room
+    pub full-turn : size < place + 6 + length payload → Turn size told history event moment area JournalFull (at history moment)
+    full-turn full = goes full_answer JournalFull
+        (ap (λ (a : Answer). roomed size history a) answered ∙ without_room size history (record { reply = defined; step = Some made }) made refl (omega (arith, full, at_end, ap length form)))
+        (is_reply told JournalFull JournalFull refl)
+
+    module _ (fits : place + 6 + length payload ≤ size) where
+      is_answer : roomed size history (answer_to (after history) moment event) ≡ record { reply = defined; step = Some made }
+      is_answer = ap (λ (a : Answer). roomed size history a) answered
+          ∙ with_room size history (record { reply = defined; step = Some made }) made refl (omega (arith, fits, at_end, ap length form))
+
+      -- the step is acknowledged
+      pub made-turn : (reply : Reply) → course_of reply area ≡ Goes → IsReply told defined reply
+          → Turn size told history event moment area reply (at (history ++ made ∷ []) moment)
+      made-turn reply course is = subst (λ (c : Course). TurnBy c told (answer_in size history moment event) history moment reply (at (history ++ made ∷ []) moment)) (sym course)
+          (goes (record { reply = defined; step = Some made }) reply is_answer is)
+
+      -- the journal failed
+      pub owes-turn : area ≡ 0 → Turn size told history event moment area BankFault (owing history moment made)
+      owes-turn journal = subst (λ (c : Course). TurnBy c told (answer_in size history moment event) history moment BankFault (owing history moment made))
+          (ap (λ (b : Bool). cond b Owes Stays) (sym (eq-eqb area 0 journal)))
+          (ap (λ (a : Answer). let w : World = record { history = history; clock = moment; due = true; owed = a.step } in w) (sym is_answer))
+
+-- What a world is then.
+
+effect-moment : (site : Site) (moment : ℕ) (kind : StepKind) (bytes : List ℕ) → IsLegal site.fields (record { moment = moment; kind = kind })
+    → (effect (record { step = record { moment = moment; kind = kind }; bytes = bytes }) site).fields.moment ≡ moment
+effect-moment site moment (Put inode path owner group size runs) bytes legal = refl
+effect-moment site moment (Accessed inode) bytes legal = refl
+effect-moment site moment (Removed inode) bytes legal = refl
+effect-moment site moment _ bytes legal = absurd legal.2
+
+-- the moment of a site is that of its last step
+pub moment-push : (history : List HistoryStep) (made : HistoryStep) → IsLegal (after history).fields made.step → (after (history ++ made ∷ [])).fields.moment ≡ made.step.moment
+moment-push history made legal = ap (λ (s : Site). s.fields.moment) (after-push history made) ∙ effect-moment (after history) made.step.moment made.step.kind made.bytes legal
+
+-- a step that is owed was made at the clock's moment
+pub owing-in_time : (history : List HistoryStep) (moment : ℕ) (made : HistoryStep) → made.step.moment ≡ moment
+    → (owed : HistoryStep) → (owing history moment made).owed ≡ Some owed → owed.step.moment ≤ (owing history moment made).clock
+owing-in_time history moment made is owed e =
+    let same : made ≡ owed = cc in
+    let at_it : owed.step.moment ≡ moment = ap (λ (m : HistoryStep). m.step.moment) (sym same) ∙ is in
+    omega (arith, at_it)

@@ -1,17 +1,19 @@
 -- What a site answers where nothing fails, and the step that the answer makes.
-use Rattle.std.specs.Prelude.{ℕ, ◌&&◌, ◌||◌, nat_le, nat_lt, Bool, true, not, if◌then◌else◌, Option, Some, None, is_some, List, length}
+use Rattle.std.specs.Prelude.{ℕ, ◌&&◌, ◌||◌, nat_le, nat_lt, Bool, not, if◌then◌else◌, Option, Some, None, is_none, List, [], length, take}
 use Rattle.records.specs.declared.event.Event.{Event}
-use Rattle.records.specs.declared.event.Event.TheVariants.{Put as PutEvent}
+use Rattle.records.specs.declared.event.Event.TheVariants.{Put as PutEvent, Read as ReadEvent, Remove as RemoveEvent}
 use Rattle.records.specs.declared.reply.Reply.{Reply}
-use Rattle.records.specs.declared.reply.Reply.TheVariants.{Stored, Refused, Line}
+use Rattle.records.specs.declared.reply.Reply.TheVariants.{Stored, Done, Bytes, Refused, Line}
 use Rattle.records.specs.declared.reply.Rule.{Rule}
-use Rattle.records.specs.declared.reply.Rule.TheVariants.{BadPath, BadAttribute, Exists, TooLarge, TooMany, NoSpace}
+use Rattle.records.specs.declared.reply.Rule.TheVariants.{NoFile, BadPath, BadAttribute, TooLarge, TooMany, NoSpace}
 use Rattle.records.specs.declared.reply.LineRefusal.TheVariants.{NotACommand}
 use Rattle.records.specs.declared.step.Step.{Step}
-use Rattle.records.specs.declared.step.StepKind.TheVariants.{Put}
+use Rattle.records.specs.declared.step.StepKind.{StepKind}
+use Rattle.records.specs.declared.step.StepKind.TheVariants.{Put, Accessed, Removed}
+use Rattle.records.specs.declared.file.FileRec.{FileRec}
 use Rattle.records.specs.Paths.{is_legal_path, is_legal_name}
 use Rattle.cache_space.specs.Blocks.{blocks_for, free_blocks, lowest_runs}
-use Rattle.site_history.specs.Site.{Fields, file_at, held_runs}
+use Rattle.site_history.specs.Site.{Fields, FileBytes, Site, file_at, held_runs, bytes_of}
 use Rattle.site_history.specs.Steps.{HistoryStep, PutOf, inode_for}
 
 -- a reply, and the step that it makes, if it makes one
@@ -43,33 +45,48 @@ put_made fields moment path owner group size = record {
 abbrev pub put_step : Fields → ℕ → List ℕ → List ℕ → List ℕ → List ℕ → HistoryStep
 put_step fields moment path owner group bytes = record { step = put_made fields moment path owner group (length bytes); bytes = bytes }
 
--- a further file does not fit: as many files are there as the cache has blocks at first, or the inode numbers are used up
+-- a further file does not fit: 65,536 files are there, or the inode numbers are used up
 abbrev pub is_full : Fields → Bool
-is_full fields = nat_le 16384 (length fields.files) || nat_lt 4294967294 fields.next_inode
+is_full fields = nat_le 65536 (length fields.files) || nat_lt 4294967294 fields.next_inode
 
 -- fewer blocks are free than so many bytes need
 abbrev pub lacks_space : Fields → ℕ → Bool
 lacks_space fields size = nat_lt (length (free_blocks fields.blocks (held_runs fields.files))) (blocks_for size)
 
--- The first rule that refuses a put of so many bytes. A path that is there is refused.
+-- The first rule that refuses a put of so many bytes. The blocks of a file that is replaced are not free yet.
 abbrev pub put_rule : Fields → List ℕ → List ℕ → List ℕ → ℕ → Option Rule
 put_rule fields path owner group size =
     if not (is_legal_path path) then Some BadPath else
     if not (is_legal_name owner && is_legal_name group) then Some BadAttribute else
-    if is_some (file_at path fields.files) then Some Exists else
     if nat_lt 16777216 size then Some TooLarge else
-    if is_full fields then Some TooMany else
+    if is_none (file_at path fields.files) && is_full fields then Some TooMany else
     if lacks_space fields size then Some NoSpace else None
 
 abbrev pub put_answer_by : Option Rule → Fields → ℕ → List ℕ → List ℕ → List ℕ → List ℕ → Answer
 put_answer_by (Some rule) fields moment path owner group bytes = refused rule
 put_answer_by None fields moment path owner group bytes =
-    record { reply = Stored (inode_for fields path) true; step = Some (put_step fields moment path owner group bytes) }
+    record { reply = Stored (inode_for fields path) (is_none (file_at path fields.files)); step = Some (put_step fields moment path owner group bytes) }
 
 abbrev pub put_answer : Fields → ℕ → List ℕ → List ℕ → List ℕ → List ℕ → Answer
 put_answer fields moment path owner group bytes = put_answer_by (put_rule fields path owner group (length bytes)) fields moment path owner group bytes
 
+-- a step without bytes
+abbrev pub bare_step : ℕ → StepKind → HistoryStep
+bare_step moment kind = record { step = record { moment = moment; kind = kind }; bytes = [] }
+
+-- the first bytes of a file, which is whole; it is accessed
+abbrev pub read_answer_of : Option FileRec → List FileBytes → ℕ → ℕ → Answer
+read_answer_of None contents moment upto = refused NoFile
+read_answer_of (Some file) contents moment upto =
+    record { reply = Bytes (take upto (bytes_of contents file.inode)); step = Some (bare_step moment (Accessed file.inode)) }
+
+abbrev pub remove_answer_of : Option FileRec → ℕ → Answer
+remove_answer_of None moment = refused NoFile
+remove_answer_of (Some file) moment = record { reply = Done file.inode; step = Some (bare_step moment (Removed file.inode)) }
+
 -- what is answered to an event at a moment; an event of a kind that is not served is no command
-abbrev pub answer_to : Fields → ℕ → Event → Answer
-answer_to fields moment (PutEvent path owner group bytes) = put_answer fields moment path owner group bytes
-answer_to fields moment _ = record { reply = Line NotACommand; step = None }
+abbrev pub answer_to : Site → ℕ → Event → Answer
+answer_to site moment (PutEvent path owner group bytes) = put_answer site.fields moment path owner group bytes
+answer_to site moment (ReadEvent path upto) = read_answer_of (file_at path site.fields.files) site.contents moment upto
+answer_to site moment (RemoveEvent path) = remove_answer_of (file_at path site.fields.files) moment
+answer_to site moment _ = record { reply = Line NotACommand; step = None }

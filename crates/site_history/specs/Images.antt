@@ -1,13 +1,12 @@
 -- What an image of the store says of a site.
-use Rattle.std.specs.Prelude.{◌≡◌, ◌⊎◌, ℕ, ◌+◌, ◌*◌, ◌<◌, ◌==◌, Some, List, [], ◌∷◌, ◌++◌, length, take, drop, map, flat_map, find}
-use Rattle.std.specs.Option.{option_map_or}
-use Rattle.bank.specs.Content.{Content, Image, Stands, Same}
+use Rattle.std.specs.Prelude.{◌≡◌, ◌⊎◌, ℕ, ◌+◌, ◌*◌, ◌<◌, Some, List, [], ◌∷◌, ◌++◌, length, take, drop, map, flat_map}
+use Rattle.bank.specs.Content.{Image, Stands}
 use Rattle.bank.specs.View.{View, IsImage}
-use Rattle.journal.specs.Records.{HoldsRecords, AllHold}
+use Rattle.journal.specs.Records.{HoldsRecords}
 use Rattle.records.specs.declared.file.FileRec.{FileRec}
 use Rattle.records.specs.declared.file.Run.{Run}
 use Rattle.records.specs.Written.{written}
-use Rattle.site_history.specs.Site.{FileBytes, Site}
+use Rattle.site_history.specs.Site.{FileBytes, Site, bytes_of}
 use Rattle.site_history.specs.Steps.{HistoryStep}
 use Rattle.site_history.specs.Histories.{after, IsHistory}
 use Rattle.site_history.specs.Worlds.{World}
@@ -17,10 +16,6 @@ pub record Extent : Type 0 where
   pub area : ℕ
   pub place : ℕ
   pub bytes : List ℕ
-
--- the bytes of a file
-abbrev pub bytes_of : List FileBytes → ℕ → List ℕ
-bytes_of contents inode = option_map_or (λ (file : FileBytes). file.bytes) (find (λ (file : FileBytes). file.inode == inode) contents) []
 
 -- bytes laid over runs of blocks of 4,096 bytes in the cache, one run after another
 abbrev pub extents_over : List Run → List ℕ → List Extent
@@ -39,11 +34,6 @@ abbrev pub AllStand : Image → List Extent → Type 0
 AllStand c [] = Unit {0}
 AllStand c (e ∷ es) = Stands (c e.area) e.place e.bytes × AllStand c es
 
--- they stand whatever a crash leaves
-abbrev pub StandInAll : View → List Extent → Type 0
-StandInAll v [] = Unit {0}
-StandInAll v (e ∷ es) = ((c : Content) → v.may_leave e.area c → Stands c e.place e.bytes) × StandInAll v es
-
 -- the written forms of a history
 abbrev pub written_forms : List HistoryStep → List (List ℕ)
 written_forms steps = map (λ (made : HistoryStep). written made.step) steps
@@ -55,36 +45,39 @@ pub record Reads (size : ℕ) (c : Image) (steps : List HistoryStep) : Type 0 wh
   pub records : HoldsRecords (c 0) 0 (written_forms steps) size
   pub bytes : AllStand c (extents (after steps))
 
--- each image reads as this history
+-- What the store reads is an image of this history, and so is each image that a crash may leave.
 pub record IsFirm (size : ℕ) (v : View) (steps : List HistoryStep) : Type 0 where
-  pub records : AllHold v (written_forms steps) size
-  pub bytes : StandInAll v (extents (after steps))
+  pub now : Reads size v.content steps
+  pub each : (c : Image) → IsImage v c → Reads size c steps
+
+-- the image reads as the history, as that without its last step, or as that with one further step
+abbrev pub ReadsNear : ℕ → List HistoryStep → Image → Type 0
+ReadsNear size steps c = Reads size c steps
+    ⊎ ((front : List HistoryStep) × (last : HistoryStep) × (steps ≡ front ++ last ∷ []) × Reads size c front)
+    ⊎ ((made : HistoryStep) × Reads size c (steps ++ made ∷ []))
+
+-- What the store reads is an image of this history, and each image that a crash may leave reads nearly so.
+pub record IsSettled (size : ℕ) (v : View) (steps : List HistoryStep) : Type 0 where
+  pub now : Reads size v.content steps
+  pub each : (c : Image) → IsImage v c → ReadsNear size steps c
 
 -- the image reads as the world's history, or as that with the step that is owed
 abbrev pub ReadsAs : ℕ → World → Image → Type 0
 ReadsAs size w c = Reads size c w.history ⊎ ((made : HistoryStep) × (w.owed ≡ Some made) × Reads size c (w.history ++ made ∷ []))
 
--- where a reopening leads: to the history, or to that with the step that is owed
-abbrev pub IsReopened : World → List HistoryStep → Type 0
-IsReopened w steps = (steps ≡ w.history) ⊎ ((made : HistoryStep) × (w.owed ≡ Some made) × (steps ≡ w.history ++ made ∷ []))
-
--- what the store reads is an image of the history, and each image that a crash may leave reads as the history, as that without
--- its last step, or as that with one further step
-pub record IsSettled (size : ℕ) (v : View) (steps : List HistoryStep) : Type 0 where
-  pub now : Reads size v.content steps
-  pub each : (c : Image) → IsImage v c → Reads size c steps
-      ⊎ ((front : List HistoryStep) × (last : HistoryStep) × (steps ≡ front ++ last ∷ []) × Reads size c front)
-      ⊎ ((made : HistoryStep) × Reads size c (steps ++ made ∷ []))
+-- settled for the world's history, or for that with the step that is owed
+abbrev pub IsSettledAs : ℕ → View → World → Type 0
+IsSettledAs size v w = IsSettled size v w.history ⊎ ((made : HistoryStep) × (w.owed ≡ Some made) × IsSettled size v (w.history ++ made ∷ []))
 
 -- the same at each byte of these extents
 abbrev pub SameAt : Image → Image → List Extent → Type 0
 SameAt c d [] = Unit {0}
 SameAt c d (e ∷ es) = ((k : ℕ) → k < length e.bytes → d e.area (e.place + k) ≡ c e.area (e.place + k)) × SameAt c d es
 
--- two images agree in the journal and wherever a site's bytes lie
-abbrev pub Agree : Image → Image → List HistoryStep → Type 0
-Agree c d steps = Same (c 0) (d 0) × SameAt c d (extents (after steps))
+-- two images agree in the journal, which has this size, and wherever a site's bytes lie
+abbrev pub Agree : ℕ → Image → Image → List HistoryStep → Type 0
+Agree size c d steps = ((k : ℕ) → k < size → d 0 k ≡ c 0 k) × SameAt c d (extents (after steps))
 
 -- then both read as the history or neither does
 abbrev pub AgreeingReadAlike : Type 0
-AgreeingReadAlike = (size : ℕ) (c d : Image) (steps : List HistoryStep) → Agree c d steps → Reads size c steps → Reads size d steps
+AgreeingReadAlike = (size : ℕ) (c d : Image) (steps : List HistoryStep) → Agree size c d steps → Reads size c steps → Reads size d steps

@@ -4,3 +4,5 @@ pub mod Histories
 pub mod Answers
 pub mod Worlds
 pub mod Images
+pub mod Journals
+pub mod Pinned

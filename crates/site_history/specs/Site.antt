@@ -1,5 +1,6 @@
 -- A site: what it keeps of its files, and the bytes of these files.
 use Rattle.std.specs.Prelude.{ℕ, ◌==◌, Option, if◌then◌else◌, List, [], ◌∷◌, find, flat_map}
+use Rattle.std.specs.Option.{option_map_or}
 use Rattle.std.specs.Str.{bytes_eq}
 use Rattle.records.specs.declared.file.FileRec.{FileRec}
 use Rattle.records.specs.declared.file.Run.{Run}
@@ -47,3 +48,7 @@ with_file new (file ∷ files) = if file.inode == new.inode then new ∷ files e
 abbrev pub with_bytes : FileBytes → List FileBytes → List FileBytes
 with_bytes new [] = new ∷ []
 with_bytes new (file ∷ files) = if file.inode == new.inode then new ∷ files else file ∷ with_bytes new files
+
+-- the bytes of a file
+abbrev pub bytes_of : List FileBytes → ℕ → List ℕ
+bytes_of contents inode = option_map_or (λ (file : FileBytes). file.bytes) (find (λ (file : FileBytes). file.inode == inode) contents) []

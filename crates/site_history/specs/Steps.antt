@@ -1,5 +1,6 @@
 -- The steps of a site: which may come, and what each changes.
-use Rattle.std.specs.Prelude.{◌≡◌, ℕ, ◌+◌, ◌<◌, ◌≤◌, IsTrue, Option, Some, None, List, [], length, MatchOption}
+use Rattle.std.specs.Prelude.{◌≡◌, ℕ, ◌+◌, ◌<◌, ◌≤◌, ◌==◌, not, if◌then◌else◌, IsTrue, Option, Some, None, List, [], length, map, filter, MatchOption}
+use Rattle.std.specs.List.{list_any}
 use Rattle.std.specs.Option.{option_map_or}
 use Rattle.records.specs.declared.file.FileRec.{FileRec}
 use Rattle.records.specs.declared.file.Run.{Run}
@@ -9,8 +10,9 @@ use Rattle.records.specs.declared.file.ReleaseKind.{ReleaseKind}
 use Rattle.records.specs.declared.file.StageKind.{StageKind}
 use Rattle.records.specs.declared.step.Step.{Step}
 use Rattle.records.specs.declared.step.StepKind.{StepKind}
-use Rattle.records.specs.declared.step.StepKind.TheVariants.{Put}
+use Rattle.records.specs.declared.step.StepKind.TheVariants.{Put, Accessed, Removed}
 use Rattle.records.specs.Paths.{is_legal_path, is_legal_name}
+use Rattle.records.specs.Written.{InRange}
 use Rattle.cache_space.specs.Blocks.{blocks_for}
 use Rattle.cache_space.specs.Space.{AreFree, AreMaximal, blocks_in}
 use Rattle.site_history.specs.Site.{Fields, FileBytes, Site, file_at, held_runs, with_file, with_bytes}
@@ -82,6 +84,23 @@ put_effect moment put fields = record {
   blocks = fields.blocks;
 }
 
+-- a file that was read has a new moment of access
+abbrev pub accessed_by : ℕ → ℕ → FileRec → FileRec
+accessed_by moment inode file = if file.inode == inode then (record file { accessed = moment }) else file
+
+abbrev pub accessed_effect : ℕ → ℕ → Fields → Fields
+accessed_effect moment inode fields = record fields { files = map (accessed_by moment inode) fields.files; moment = moment }
+
+-- a file that is removed goes, and its blocks with it
+abbrev pub without_file : ℕ → List FileRec → List FileRec
+without_file inode files = filter (λ (file : FileRec). not (file.inode == inode)) files
+
+abbrev pub removed_effect : ℕ → ℕ → Fields → Fields
+removed_effect moment inode fields = record fields { files = without_file inode fields.files; moment = moment }
+
+abbrev pub without_bytes : ℕ → List FileBytes → List FileBytes
+without_bytes inode contents = filter (λ (file : FileBytes). not (file.inode == inode)) contents
+
 -- what a step changes of the fields; a kind that is not served changes nothing, and is never legal
 abbrev pub fields_after : Step → Fields → Fields
 fields_after step fields = by_kind step.kind
@@ -89,6 +108,8 @@ fields_after step fields = by_kind step.kind
     by_kind : StepKind → Fields
     by_kind (Put inode path owner group length runs) = put_effect step.moment
         (record { inode = inode; path = path; owner = owner; group = group; length = length; runs = runs }) fields
+    by_kind (Accessed inode) = accessed_effect step.moment inode fields
+    by_kind (Removed inode) = removed_effect step.moment inode fields
     by_kind _ = fields
 
 -- what it changes of the bytes
@@ -97,6 +118,7 @@ contents_after made contents = by_kind made.step.kind
   where
     by_kind : StepKind → List FileBytes
     by_kind (Put inode path owner group length runs) = with_bytes (record { inode = inode; bytes = made.bytes }) contents
+    by_kind (Removed inode) = without_bytes inode contents
     by_kind _ = contents
 
 abbrev pub effect : HistoryStep → Site → Site
@@ -115,12 +137,18 @@ pub record IsLegalPut (fields : Fields) (put : PutOf) : Type 0 where
   pub free : AreFree fields.blocks (held_runs fields.files) put.runs
   pub blocks : blocks_in put.runs ≡ blocks_for put.length
 
--- the step may come: its moment is at least the last one, and its kind's rule holds
+-- a file of this inode is there
+abbrev pub IsThere : Fields → ℕ → Type 0
+IsThere fields inode = IsTrue (list_any (λ (file : FileRec). file.inode == inode) fields.files)
+
+-- the step may come: its fields are in their ranges, its moment is at least the last one, and its kind's rule holds
 abbrev pub IsLegal : Fields → Step → Type 0
-IsLegal fields step = (fields.moment ≤ step.moment) × by_kind step.kind
+IsLegal fields step = InRange step × (fields.moment ≤ step.moment) × by_kind step.kind
   where
     by_kind : StepKind → Type 0
     by_kind (Put inode path owner group length runs) = IsLegalPut fields (record { inode = inode; path = path; owner = owner; group = group; length = length; runs = runs })
+    by_kind (Accessed inode) = IsThere fields inode
+    by_kind (Removed inode) = IsThere fields inode
     by_kind _ = ⊥
 
 -- a put has as many bytes as its length says, and no other step has any

@@ -1,12 +1,12 @@
 -- A world: a history, the clock, and what a fault in the journal left open. And what one event does to it.
-use Rattle.std.specs.Prelude.{◌≡◌, ℕ, ◌+◌, ◌-◌, ◌^◌, min, max, ◌==◌, nat_le, Bool, true, false, if◌then◌else◌, Option, Some, None, List, [], ◌∷◌, ◌++◌, length}
+use Rattle.std.specs.Prelude.{◌≡◌, ◌⊎◌, ℕ, ◌+◌, ◌-◌, ◌^◌, min, max, ◌==◌, nat_le, Bool, true, false, if◌then◌else◌, Option, Some, None, List, [], ◌∷◌, ◌++◌, length}
 use Rattle.records.specs.Written.{written}
 use Rattle.records.specs.declared.event.Event.{Event}
 use Rattle.records.specs.declared.reply.Reply.{Reply}
-use Rattle.records.specs.declared.reply.Reply.TheVariants.{NoMemory, JournalFull, BankFault}
+use Rattle.records.specs.declared.reply.Reply.TheVariants.{Bytes, NoMemory, JournalFull, BankFault, BadJournal}
 use Rattle.site_history.specs.Site.{Site}
 use Rattle.site_history.specs.Steps.{HistoryStep}
-use Rattle.site_history.specs.Histories.{after, journal_length}
+use Rattle.site_history.specs.Histories.{after, IsHistory, journal_length}
 use Rattle.site_history.specs.Answers.{Answer, answer_to}
 
 pub record World : Type 0 where
@@ -30,8 +30,8 @@ abbrev pub new_world : List HistoryStep → World
 new_world history = at history (after history).fields.moment
 
 -- the moment of an event: the clock never goes back, and moments are below 2^40
-abbrev pub moment_of : World → ℕ → ℕ
-moment_of w now = max w.clock (min now (2 ^ 40 - 1))
+abbrev pub moment_of : ℕ → ℕ → ℕ
+moment_of clock now = max clock (min now (2 ^ 40 - 1))
 
 -- whether a journal of this size has room for the record of a further step and the closed gate behind it
 abbrev pub has_room : ℕ → List HistoryStep → Option HistoryStep → Bool
@@ -40,13 +40,19 @@ has_room size history (Some made) = nat_le (journal_length history + 6 + length 
 
 -- the answer to an event at a moment, where the journal has this size
 abbrev pub answer_in : ℕ → List HistoryStep → ℕ → Event → Answer
-answer_in size history moment event = let answer = answer_to (after history).fields moment event in
+answer_in size history moment event = let answer = answer_to (after history) moment event in
     if has_room size history answer.step then answer else (record { reply = JournalFull; step = None })
 
 -- the history with the step of an answer
 abbrev pub with_step : List HistoryStep → Option HistoryStep → List HistoryStep
 with_step history None = history
 with_step history (Some made) = history ++ made ∷ []
+
+-- The reply is the one that is defined. Where the store tells nothing, the bytes of a reply are right in their number alone.
+abbrev pub IsReply : Bool → Reply → Reply → Type 0
+IsReply true defined reply = reply ≡ defined
+IsReply false (Bytes defined) reply = (bytes : List ℕ) × (reply ≡ Bytes bytes) × (length bytes ≡ length defined)
+IsReply false defined reply = reply ≡ defined
 
 -- what becomes of a world: the answer as defined is given, or the world stays, or a step is owed
 pub data Course : Type 0 where
@@ -60,13 +66,47 @@ course_of NoMemory area = Stays
 course_of BankFault area = if area == 0 then Owes else Stays
 course_of _ area = Goes
 
-abbrev pub TurnBy : Course → Answer → World → ℕ → Reply → World → Type 0
-TurnBy Goes answer w moment reply w' = (reply ≡ answer.reply) × (w' ≡ at (with_step w.history answer.step) moment)
-TurnBy Stays answer w moment reply w' = w' ≡ at w.history moment
-TurnBy Owes answer w moment reply w' = w' ≡ record { history = w.history; clock = moment; due = true; owed = answer.step }
+abbrev pub TurnBy : Course → Bool → Answer → List HistoryStep → ℕ → Reply → World → Type 0
+TurnBy Goes told answer history moment reply w' = IsReply told answer.reply reply × (w' ≡ at (with_step history answer.step) moment)
+TurnBy Stays told answer history moment reply w' = w' ≡ at history moment
+TurnBy Owes told answer history moment reply w' = w' ≡ record { history = history; clock = moment; due = true; owed = answer.step }
 
--- One event in a world with nothing open. The reply is the one that is defined, and its step is made; or the reply is want
--- of memory or a fault of the store outside the journal, and the world is as before but for its clock; or it is a fault in
--- the journal, and the step is owed.
-abbrev pub Turn : ℕ → World → Event → ℕ → ℕ → Reply → World → Type 0
-Turn size w event now area reply w' = TurnBy (course_of reply area) (answer_in size w.history (moment_of w now) event) w (moment_of w now) reply w'
+-- One event over a history with nothing open; `told` is whether the store tells its content. The reply is the one that is
+-- defined, and its step is made; or the reply is want of memory or a fault of the store outside the journal, and the world is
+-- as before but for its clock; or it is a fault in the journal, and the step is owed.
+abbrev pub Turn : ℕ → Bool → List HistoryStep → Event → ℕ → ℕ → Reply → World → Type 0
+Turn size told history event moment area reply w' = TurnBy (course_of reply area) told (answer_in size history moment event) history moment reply w'
+
+-- Where a reopening leads: to the history, or to that with the step that is owed. A store that tells nothing may lead to any
+-- history, that of the journal as it was read.
+abbrev pub IsReopened : Bool → World → List HistoryStep → Type 0
+IsReopened true w steps = (steps ≡ w.history) ⊎ ((made : HistoryStep) × (w.owed ≡ Some made) × (steps ≡ w.history ++ made ∷ []))
+IsReopened false w steps = IsHistory steps
+
+-- the clock then: it stays, but where a store that tells nothing leads to a history that ends later
+abbrev pub clock_from : Bool → World → List HistoryStep → ℕ
+clock_from true w steps = w.clock
+clock_from false w steps = max w.clock (after steps).fields.moment
+
+-- A reopening that is refused, and is still due. A store that tells its content never has a bad journal then.
+abbrev pub RefusesReopening : Bool → Reply → Type 0
+RefusesReopening told BankFault = Unit {0}
+RefusesReopening told NoMemory = Unit {0}
+RefusesReopening told (BadJournal place) = told ≡ false
+RefusesReopening told _ = ⊥
+
+-- an event where a reopening is due or not
+abbrev pub EventTurnBy : Bool → ℕ → Bool → World → Event → ℕ → ℕ → Reply → World → Type 0
+EventTurnBy false size told w event now area reply w' = Turn size told w.history event (moment_of w.clock now) area reply w'
+EventTurnBy true size told w event now area reply w' =
+    ((steps : List HistoryStep) × IsReopened told w steps × Turn size told steps event (moment_of (clock_from told w steps) now) area reply w')
+    ⊎ (RefusesReopening told reply × (w' ≡ w))
+
+-- An event in a world: a turn; where a reopening is due, a turn from where that leads, or the reopening is refused.
+abbrev pub EventTurn : ℕ → Bool → World → Event → ℕ → ℕ → Reply → World → Type 0
+EventTurn size told w event now area reply w' = EventTurnBy w.due size told w event now area reply w'
+
+-- the history that a store is opened with: that for which it is settled; where it tells nothing, that of the journal as read
+abbrev pub IsFound : Bool → List HistoryStep → List HistoryStep → Type 0
+IsFound true before found = found ≡ before
+IsFound false before found = IsHistory found

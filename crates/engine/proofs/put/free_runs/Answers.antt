@@ -1,5 +1,8 @@
-use Rattle.std.proofs.Common.{arith}
-use Rattle.engine.proofs.Space.{lowest_known}
+use Rattle.std.proofs.Common.{List, length, sym, subst, arith}
+use Rattle.cache_space.specs.Space.{AreMaximal}
+use Rattle.records.specs.declared.file.Run.{Run}
+use Rattle.cache_space.proofs.LowestRuns.{lowest_runs-maximal}
+use Rattle.site_history.proofs.RunRanges.{lowest_known, held_by}
 use Rattle.engine.proofs.put.free_runs.Goals as goal
 
 pub returns-in-Ok-clause-few : goal.returns-in-Ok-clause-few
@@ -10,3 +13,8 @@ returns-in-Ok-clause-few c =
 pub returns-in-Ok-clause-small : goal.returns-in-Ok-clause-small
 returns-in-Ok-clause-small c =
     (lowest_known c.args.space.now c.in-Ok.runs c.blocks_needed.result (omega (arith, c.blocks-blocks.ensures, c.blocks-blocks.type_inv)) c.in-Ok.ensures.lowest).1
+
+pub returns-in-Ok-clause-maximal : goal.returns-in-Ok-clause-maximal
+returns-in-Ok-clause-maximal c =
+    subst (λ (l : List Run). AreMaximal l) (sym (c.in-Ok.ensures.lowest (length c.args.space.now) _ (held_by c.args.space.now)))
+    (lowest_runs-maximal (length c.args.space.now) _ c.blocks_needed.result)

@@ -7,6 +7,6 @@ use Rattle.plain_session.proofs.rule.lacks_space.Goals as goal
 
 pub returns : goal.returns
 returns c =
-    lacking c.args.world.now.blocks (held_runs c.args.world.now.files) c.blocks_needed.result c.as_slice.result.now c.have_blocks.result
-    (c.as_slice.ensures ∙ c.in_ok-runs.ensures ∙ ap (λ n. lowest_runs c.args.world.now.blocks (held_runs c.args.world.now.files) n) (sym c.blocks_needed.ensures)) c.have_blocks.ensures
-    ∙ ap (λ n. nat_lt (length (free_blocks c.args.world.now.blocks (held_runs c.args.world.now.files))) n) c.blocks_needed.ensures
+    lacking c.args.site.now.blocks (held_runs c.args.site.now.files.items) c.blocks_needed.result c.as_slice.result.now c.have_blocks.result
+    (c.as_slice.ensures ∙ c.in_ok-runs.ensures ∙ ap (λ n. lowest_runs c.args.site.now.blocks (held_runs c.args.site.now.files.items) n) (sym c.blocks_needed.ensures)) c.have_blocks.ensures
+    ∙ ap (λ n. nat_lt (length (free_blocks c.args.site.now.blocks (held_runs c.args.site.now.files.items))) n) c.blocks_needed.ensures

@@ -1,19 +1,21 @@
-use Rattle.std.proofs.Common.{◌≡◌, ◌≤◌, ◌+◌, false, length}
-use Rattle.site_history.specs.Worlds.{World}
+use Rattle.std.proofs.Common.{◌≡◌, ◌≤◌, ◌+◌, length, Bool, IsTrue}
 use Rattle.engine.specs.StandsFor.{StandsFor}
 use Rattle.session.specs.Asking.{asks_of}
+use Rattle.session.specs.Rounds.{Stage}
+use Rattle.session.specs.Kept.{Passes}
 use Rattle.session.specs.Session.{seen}
 use Rattle.session.specs.Ran.{Ran}
 use Rattle.session.proofs.run.converse.Given as goal
 
 abbrev pub invariant-lines : goal.invariant-lines
 invariant-lines g l = record {
-  ran : (w : World) → StandsFor l.fn.session.engine w
-      → Ran asks_of (StandsFor l.session.engine) g.B.Bank.tells l.fn.session.engine.journal.size 0
+  ran : (told : Bool) → (IsTrue told → IsTrue g.B.Bank.tells) → (stage : Stage) → StandsFor told g.B.Bank.view l.fn.session.engine stage.world → l.fn.session.moment ≡ stage.now
+      → Ran asks_of (StandsFor told g.B.Bank.view l.session.engine) told l.fn.session.engine.journal.size (g.B.Bank.view l.session.engine.bank)
       (seen g.I.Source.left g.I.Source.faults g.O.Sink.written g.O.Sink.faults g.B.Bank.faults g.B.Bank.view l.fn.input l.fn.output l.fn.session.engine.bank)
       (seen g.I.Source.left g.I.Source.faults g.O.Sink.written g.O.Sink.faults g.B.Bank.faults g.B.Bank.view l.input l.output l.session.engine.bank)
-      l.fn.reader l.reader w l.session.marks.items l.session.status;
-  ready : l.session.engine.due ≡ false;
+      l.fn.reader l.reader stage l.session.moment l.session.marks.items l.session.status;
+  passes : (told : Bool) → (IsTrue told → IsTrue g.B.Bank.tells) → (stage : Stage) → StandsFor told g.B.Bank.view l.fn.session.engine stage.world → l.fn.session.moment ≡ stage.now
+      → IsTrue told → Passes (g.B.Bank.view l.fn.session.engine.bank) (g.B.Bank.view l.session.engine.bank);
   size : l.session.engine.journal.size ≡ l.fn.session.engine.journal.size;
   patterns : l.session.engine.patterns ≡ l.fn.session.engine.patterns;
   source_later : g.I.Source.faults l.fn.input ≤ g.I.Source.faults l.input;

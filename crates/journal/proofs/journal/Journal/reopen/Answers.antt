@@ -6,15 +6,15 @@ pub returns-in_err-buffer-clause-unchanged : goal.returns-in_err-buffer-clause-u
 returns-in_err-buffer-clause-unchanged g c = λ told. nothing_read _ (g.met.B.Bank.sound _ told)
 
 pub returns-in_err-sync-clause-unchanged : goal.returns-in_err-sync-clause-unchanged
-returns-in_err-sync-clause-unchanged g c = λ told. only_read _ _ (g.met.B.Bank.sound _ told) (c.sync.ensures.unchanged told)
+returns-in_err-sync-clause-unchanged g c = λ told. only_read _ _ (g.met.B.Bank.sound _ told) (g.met.B.Bank.sound _ told) (c.sync.ensures.unchanged told)
 
 pub returns-in_err-place-clause-unchanged : goal.returns-in_err-place-clause-unchanged
 returns-in_err-place-clause-unchanged g c = λ told.
-    read_then_read _ _ _ (only_read _ _ (g.met.B.Bank.sound _ told) (c.sync.ensures.unchanged told)) (c.read_records.ensures.unchanged told)
+    read_then_read _ _ _ (only_read _ _ (g.met.B.Bank.sound _ told) (g.met.B.Bank.sound _ told) (c.sync.ensures.unchanged told)) (c.read_records.ensures.unchanged told)
 
 pub returns-clause-unchanged : goal.returns-clause-unchanged
 returns-clause-unchanged g c = λ told.
-    read_then_read _ _ _ (only_read _ _ (g.met.B.Bank.sound _ told) (c.sync.ensures.unchanged told)) (c.read_records.ensures.unchanged told)
+    read_then_read _ _ _ (only_read _ _ (g.met.B.Bank.sound _ told) (g.met.B.Bank.sound _ told) (c.sync.ensures.unchanged told)) (c.read_records.ensures.unchanged told)
 
 pub returns-clause-exact : goal.returns-clause-exact
 returns-clause-exact g c = λ told place payloads bad. not_bad _ place _ _ payloads (c.in_ok-place.ensures.records told) bad

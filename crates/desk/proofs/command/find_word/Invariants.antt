@@ -1,6 +1,0 @@
-use Rattle.std.proofs.Common.{◌≡◌, drop, map}
-use Rattle.desk.specs.Asks.{named}
-use Rattle.desk.proofs.command.find_word.Given as goal
-
-abbrev pub invariant-loop-entry : goal.invariant-loop-entry
-invariant-loop-entry g l = named (map (λ e. (e.0.now, e.1)) (drop l.entry-index l.table)) l.word ≡ named (map (λ e. (e.0.now, e.1)) l.table) l.word

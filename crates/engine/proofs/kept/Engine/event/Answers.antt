@@ -1,0 +1,23 @@
+use Rattle.engine.proofs.Serving.{event_at_rest, event_reopened, event_refused}
+use Rattle.engine.proofs.kept.Engine.event.Goals as goal
+
+pub returns-in-Ok-clause-turn : goal.returns-in-Ok-clause-turn
+returns-in-Ok-clause-turn g c = λ told tells w s.
+    event_reopened told g.B.Bank.view c.args.self.now c.recover.new.self c.serve_at.new.self w s c.if-self.true c.args.event.now c.args.now _ _
+    (c.in-Ok.ensures.recovered told tells w s c.if-self.true) c.recover.ensures.size (λ history clock stands. c.serve_at.ensures.turn told tells history clock stands)
+
+pub returns-in-Ok-clause-bad_journal : goal.returns-in-Ok-clause-bad_journal
+returns-in-Ok-clause-bad_journal g c = λ tells. c.serve_at.ensures.journal c.args.self.now.journal.size ((g.B.Bank.view c.serve_at.new.self.bank).content 0)
+
+pub returns-in-Err-clause-turn : goal.returns-in-Err-clause-turn
+returns-in-Err-clause-turn g c = λ told tells w s.
+    let refused = c.in-Err.ensures.recovered told tells w s c.if-self.true in
+    event_refused told g.B.Bank.view c.args.self.now c.recover.new.self w s c.if-self.true c.args.self.now.journal.size c.args.event.now c.args.now _ _ refused.0 refused.1
+
+pub returns-else-self-clause-turn : goal.returns-else-self-clause-turn
+returns-else-self-clause-turn g c = λ told tells w s.
+    event_at_rest told g.B.Bank.view c.args.self.now c.serve_at-else-self.new.self w s c.if-self.false c.args.self.now.journal.size c.args.event.now c.args.now _ _
+    (λ history clock stands. c.serve_at-else-self.ensures.turn told tells history clock stands)
+
+pub returns-else-self-clause-bad_journal : goal.returns-else-self-clause-bad_journal
+returns-else-self-clause-bad_journal g c = λ tells. c.serve_at-else-self.ensures.journal c.args.self.now.journal.size ((g.B.Bank.view c.serve_at-else-self.new.self.bank).content 0)

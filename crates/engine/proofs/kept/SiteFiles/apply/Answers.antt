@@ -1,0 +1,17 @@
+use Rattle.std.proofs.Common.{subst}
+use Rattle.records.proofs.InRange.{ranges}
+use Rattle.records.specs.Ranges.{Ranges}
+use Rattle.records.specs.declared.step.StepKind.{StepKind}
+use Rattle.engine.proofs.kept.SiteFiles.apply.Goals as goal
+
+pub apply_put-requires-clause-range : goal.apply_put-requires-clause-range
+apply_put-requires-clause-range c = (ranges c.args.step c.requires.range).0
+
+pub apply_put-requires-clause-inode : goal.apply_put-requires-clause-inode
+apply_put-requires-clause-inode c = (subst (λ (kind : StepKind). Ranges kind) c.in-Put.is (ranges c.args.step c.requires.range).1).0
+
+pub apply_access-requires : goal.apply_access-requires
+apply_access-requires c = record { range = (ranges c.args.step c.requires.range).0 }
+
+pub apply_removal-requires : goal.apply_removal-requires
+apply_removal-requires c = record { range = (ranges c.args.step c.requires.range).0 }

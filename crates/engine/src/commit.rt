@@ -1,0 +1,56 @@
+//! A step's record.
+
+ghost use Rattle.std.specs.Prelude.{◌≡◌, ◌+◌, ◌++◌, ◌∷◌, [], ◌≤◌, true, false, Bool, List as Seq, IsTrue, length, OnOk, OnErr};
+ghost use Rattle.site_text.specs.Causes.{Rose};
+ghost use Rattle.records.specs.Written.{InRange};
+ghost use Rattle.journal.specs.Records.{IsPayload};
+ghost use Rattle.site_history.specs.Steps.{HistoryStep};
+ghost use Rattle.site_history.specs.Worlds.{at};
+ghost use Rattle.engine.specs.Ready.{IsReady, owing};
+ghost use Rattle.engine.specs.Room.{HasRoomFor};
+ghost use Rattle.engine.specs.StandsFor.{Moves};
+
+use crate::kept::Engine;
+use bank::{Bank, BankFailed};
+use journal::AppendRefusal;
+use records::Step;
+
+impl<B: Bank, P: Drop> Engine<B, P> {
+    /// Records a step whose written form is the payload, and for which the journal has room, and makes it. At an error a
+    /// reopening is due: the journal may hold the step or not.
+    pub fn commit(&mut self, step: Step) -> Result<(), BankFailed>
+        requires ready { self.old.due ≡ false }
+        requires payload { IsPayload self.old.payload.items }
+        requires fits { self.old.journal.place + 6 + length self.old.payload.items ≤ self.old.journal.size }
+        requires range { InRange step }
+        requires room { HasRoomFor self.old.site.files step }
+        // At `Ok` the step is acknowledged: the engine stands for the history with it.
+        ensures made { (told : Bool) → (IsTrue told → IsTrue B.tells) → (history : Seq HistoryStep) → (made : HistoryStep) → made.step ≡ step → IsReady told B.view self.old history made
+            → OnOk result (Moves told B.view self.old self.new (at history self.old.clock) (at (history ++ made ∷ []) self.old.clock)) }
+        // At an error the step is owed.
+        ensures owed { (told : Bool) → (IsTrue told → IsTrue B.tells) → (history : Seq HistoryStep) → (made : HistoryStep) → made.step ≡ step → IsReady told B.view self.old history made
+            → OnErr result (Moves told B.view self.old self.new (at history self.old.clock) (owing history self.old.clock made)) }
+        ensures fault { OnErr result (Rose (B.faults self.old.bank) (B.faults self.new.bank)) }
+        ensures area { OnErr result (B.last_fault self.new.bank ≡ 0) }
+        ensures later { B.faults self.old.bank ≤ B.faults self.new.bank }
+        ensures open { OnOk result (self.new.due ≡ false) }
+        ensures due { OnErr result (self.new.due ≡ true) }
+        ensures size { self.new.journal.size ≡ self.old.journal.size }
+        ensures clock { self.new.clock ≡ self.old.clock }
+        ensures patterns { self.new.patterns ≡ self.old.patterns }
+        ensures moment { IsTrue B.tells → (B.view self.old.bank).moment ≤ (B.view self.new.bank).moment }
+    {
+        match self.journal.append(&mut self.bank, &self.payload) {
+            Ok(_) => {
+                self.steps = self.journal.count();
+                self.site.apply(step);
+                Ok(())
+            }
+            Err(AppendRefusal::JournalFull) => unreachable!(),
+            Err(AppendRefusal::BankFault) => {
+                self.due = true;
+                Err(BankFailed {})
+            }
+        }
+    }
+}

@@ -1,0 +1,20 @@
+//! A step's written form.
+
+ghost use Rattle.std.specs.Prelude.{◌≡◌, ◌≤◌, OnOk};
+ghost use Rattle.records.specs.Lengths.{step_length};
+ghost use Rattle.records.specs.Written.{written, InRange};
+ghost use Rattle.journal.specs.Records.{IsPayload};
+
+use records::{Step, encode_step};
+use std::alloc::AllocError;
+
+/// Puts a step's written form in the place of what the buffer has.
+pub fn write_payload(step: &Step, payload: &mut Vec<u8>) -> Result<(), AllocError>
+    requires range { InRange step.now }
+    requires short { step_length step.now ≤ 1048576 }
+    ensures written { OnOk result (payload.new.items ≡ written step.now) }
+    ensures bounded { OnOk result (IsPayload payload.new.items) }
+{
+    payload.clear();
+    encode_step(step, payload)
+}

@@ -1,0 +1,50 @@
+//! Removals.
+
+ghost use Rattle.std.specs.Prelude.{ℕ, ◌≡◌, ◌≢◌, ◌≤◌, false, Bool, List as Seq, IsTrue};
+ghost use Rattle.site_text.specs.Causes.{Rose};
+ghost use Rattle.records.specs.declared.event.Event.TheVariants.{Remove as RemoveEvent};
+ghost use Rattle.site_history.specs.Steps.{HistoryStep};
+ghost use Rattle.site_history.specs.Worlds.{World, at, Turn};
+ghost use Rattle.bank.specs.Content.{Content};
+ghost use Rattle.engine.specs.Journals.{RepliesJournal};
+ghost use Rattle.engine.specs.StandsFor.{StandsFor, Moves};
+
+use crate::kept::Engine;
+use crate::payload::write_payload;
+use bank::Bank;
+use records::{Reply, Rule, Step, StepKind};
+
+impl<B: Bank, P: Drop> Engine<B, P> {
+    /// Removes the file of a path. The event's moment is the clock.
+    pub fn remove(&mut self, path: &[u8]) -> Reply
+        requires { self.old.due ≡ false }
+        ensures turn { (told : Bool) → (IsTrue told → IsTrue B.tells) → (history : Seq HistoryStep) → StandsFor told B.view self.old (at history self.old.clock)
+            → (w : World) × Turn self.old.journal.size told history (RemoveEvent path.now) self.old.clock (B.last_fault self.new.bank) result w × Moves told B.view self.old self.new (at history self.old.clock) w }
+        ensures fault { result ≡ Reply.BankFault → Rose (B.faults self.old.bank) (B.faults self.new.bank) }
+        ensures later { B.faults self.old.bank ≤ B.faults self.new.bank }
+        ensures ready { result ≢ Reply.BankFault → self.new.due ≡ false }
+        ensures journal { (size : ℕ) (c : Content) → RepliesJournal size c result }
+        ensures size { self.new.journal.size ≡ self.old.journal.size }
+        ensures patterns { self.new.patterns ≡ self.old.patterns }
+        ensures moment { IsTrue B.tells → (B.view self.old.bank).moment ≤ (B.view self.new.bank).moment }
+    {
+        let Some(index) = self.site.files.find(path) else {
+            return Reply::Refused(Rule::NoFile);
+        };
+        let inode = self.site.files.inode_at(index);
+        let step = Step {
+            moment: self.clock,
+            kind: StepKind::Removed { inode },
+        };
+        let Ok(()) = write_payload(&step, &mut self.payload) else {
+            return Reply::NoMemory;
+        };
+        if !self.journal.has_room(self.payload.len()) {
+            return Reply::JournalFull;
+        }
+        match self.commit(step) {
+            Ok(()) => Reply::Done(inode),
+            Err(_) => Reply::BankFault,
+        }
+    }
+}

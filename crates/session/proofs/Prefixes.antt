@@ -1,0 +1,109 @@
+-- What a crash leaves holds each step that was acknowledged.
+use Rattle.std.proofs.Common.{◌≡◌, ◌⊎◌, inl, inr, ℕ, ◌+◌, List, [], ◌∷◌, ◌++◌, length, take, refl, sym, ◌∙◌, ap, Bool, true, false, Option, Some, None, Ok, Err, append_assoc}
+use Rattle.std.proofs.lemmas.List.{append-nil}
+use Rattle.std.proofs.Math.Seq.{take-append_seam}
+use Rattle.bank.specs.Content.{Image}
+use Rattle.bank.specs.View.{View}
+use Rattle.records.specs.declared.event.Asked.{Asked}
+use Rattle.records.specs.declared.event.Asked.TheVariants.{One, At as AskedAt}
+use Rattle.records.specs.declared.event.Event.{Event}
+use Rattle.records.specs.declared.reply.Reply.{Reply}
+use Rattle.site_history.specs.Steps.{HistoryStep}
+use Rattle.site_history.specs.Answers.{Answer}
+use Rattle.site_history.specs.Worlds.{World, with_step, answer_in, moment_of, clock_from, TurnBy, Course, Goes, Stays, Owes, course_of, EventTurnBy}
+use Rattle.site_history.specs.Images.{Reads, ReadsAs}
+use Rattle.session.specs.Asking.{Request}
+use Rattle.session.specs.Rounds.{Stage, Round, IsRoundOf, IsRun, stage_after, marks_from}
+use Rattle.session.specs.Kept.{AreKept, BeginsWith, AreHeld}
+
+-- A history begins with itself, and with what a beginning of it begins with.
+whole : (steps : List HistoryStep) → BeginsWith steps steps
+whole steps = ([], sym (append-nil steps))
+
+longer : (front mid steps : List HistoryStep) → BeginsWith front mid → BeginsWith mid steps → BeginsWith front steps
+longer front mid steps (more, e) (rest, k) = (more ++ rest, k ∙ ap (λ (l : List HistoryStep). l ++ rest) e ∙ append_assoc front more rest)
+
+alike : (front steps same : List HistoryStep) → same ≡ steps → BeginsWith front steps → BeginsWith front same
+alike front steps same e (more, k) = (more, e ∙ k)
+
+-- The step of an answer comes behind the others.
+with_step_begins : (history : List HistoryStep) (step : Option HistoryStep) → BeginsWith history (with_step history step)
+with_step_begins history None = whole history
+with_step_begins history (Some made) = (made ∷ [], refl)
+
+-- A turn adds at most a step.
+turn_begins : (course : Course) (told : Bool) (answer : Answer) (history : List HistoryStep) (moment : ℕ) (reply : Reply) (w' : World) → TurnBy course told answer history moment reply w' → BeginsWith history w'.history
+turn_begins Goes told answer history moment reply w' turn = alike history (with_step history answer.step) w'.history (ap (λ (w : World). w.history) turn.1) (with_step_begins history answer.step)
+turn_begins Stays told answer history moment reply w' turn = alike history history w'.history (ap (λ (w : World). w.history) turn) (whole history)
+turn_begins Owes told answer history moment reply w' turn = alike history history w'.history (ap (λ (w : World). w.history) turn) (whole history)
+
+-- So does an event; a reopening adds the step that is owed, or none.
+event_begins : (due : Bool) (size : ℕ) (w : World) (event : Event) (now area : ℕ) (reply : Reply) (w' : World) → EventTurnBy due size true w event now area reply w' → BeginsWith w.history w'.history
+event_begins false size w event now area reply w' turn = turn_begins (course_of reply area) true (answer_in size w.history (moment_of w.clock now) event) w.history (moment_of w.clock now) reply w' turn
+event_begins true size w event now area reply w' (inr (refused, e)) = alike w.history w.history w'.history (ap (λ (x : World). x.history) e) (whole w.history)
+event_begins true size w event now area reply w' (inl (steps, inl e, turn)) =
+    longer w.history steps w'.history (alike w.history w.history steps e (whole w.history))
+    (turn_begins (course_of reply area) true (answer_in size steps (moment_of (clock_from true w steps) now) event) steps (moment_of (clock_from true w steps) now) reply w' turn)
+event_begins true size w event now area reply w' (inl (steps, inr (made, owed, e), turn)) =
+    longer w.history steps w'.history (made ∷ [], e)
+    (turn_begins (course_of reply area) true (answer_in size steps (moment_of (clock_from true w steps) now) event) steps (moment_of (clock_from true w steps) now) reply w' turn)
+
+-- After a round the history begins with that before it.
+stage_alike : (stage stage' : Stage) → stage' ≡ stage → BeginsWith stage.world.history stage'.world.history
+stage_alike stage stage' e = alike stage.world.history stage.world.history stage'.world.history (ap (λ (s : Stage). s.world.history) e) (whole stage.world.history)
+
+asked_begins : (size : ℕ) (stage : Stage) (asked : Asked) (reply : Reply) (stage' : Stage) → IsRoundOf size true stage (Ok asked) reply stage' → BeginsWith stage.world.history stage'.world.history
+asked_begins size stage (One event) reply stage' (inl lost) = stage_alike stage stage' lost.1
+asked_begins size stage (One event) reply stage' (inr turn) =
+    alike stage.world.history turn.1.history stage'.world.history (ap (λ (s : Stage). s.world.history) turn.3) (event_begins stage.world.due size stage.world event stage.now turn.0 reply turn.1 turn.2)
+asked_begins size stage (AskedAt moment) reply stage' (inl lost) = stage_alike stage stage' lost.1
+asked_begins size stage (AskedAt moment) reply stage' (inr moved) =
+    alike stage.world.history stage.world.history stage'.world.history (ap (λ (s : Stage). s.world.history) moved.1) (whole stage.world.history)
+asked_begins size stage _ reply stage' answers = stage_alike stage stage' answers.1
+
+round_begins : (size : ℕ) (stage : Stage) (request : Request) (reply : Reply) (stage' : Stage) → IsRoundOf size true stage request reply stage' → BeginsWith stage.world.history stage'.world.history
+round_begins size stage (Err refusal) reply stage' answers = stage_alike stage stage' answers.1
+round_begins size stage (Ok asked) reply stage' round = asked_begins size stage asked reply stage' round
+
+-- And so it does after a run.
+run_begins : (size : ℕ) (stage : Stage) (rounds : List Round) → IsRun size true stage rounds → BeginsWith stage.world.history (stage_after stage rounds).world.history
+run_begins size stage [] run = whole stage.world.history
+run_begins size stage (x ∷ rounds) run =
+    longer stage.world.history x.after.world.history (stage_after x.after rounds).world.history (round_begins size stage x.asked x.reply x.after run.0) (run_begins size x.after rounds run.1)
+
+-- An image that reads as a world reads as a history that begins with the world's.
+read_begins : (size : ℕ) (c : Image) (front : List HistoryStep) (w : World) → BeginsWith front w.history → ReadsAs size w c → (steps : List HistoryStep) × Reads size c steps × BeginsWith front steps
+read_begins size c front w begins (inl reads) = (w.history, reads, begins)
+read_begins size c front w begins (inr (made, owed, reads)) = (w.history ++ made ∷ [], reads, longer front w.history (w.history ++ made ∷ []) begins (made ∷ [], refl))
+
+-- An image since a moment reads as a history that begins with that which stood at the moment.
+since_begins : (size : ℕ) (v : View) (from : ℕ) (stage : Stage) (rounds : List Round) → AreKept size v from stage.world rounds → IsRun size true stage rounds
+    → (c : Image) → v.left_since from c → (steps : List HistoryStep) × Reads size c steps × BeginsWith stage.world.history steps
+since_begins size v from stage [] kept run c left = read_begins size c stage.world.history stage.world (whole stage.world.history) (kept c left)
+since_begins size v from stage (x ∷ rounds) kept run c left = by_time (kept.0 c left) (since_begins size v x.moment x.after rounds kept.1 run.1 c)
+  where
+    begins : BeginsWith stage.world.history x.after.world.history
+    begins = round_begins size stage x.asked x.reply x.after run.0
+
+    by_time : v.left_since x.moment c ⊎ (ReadsAs size stage.world c ⊎ ReadsAs size x.after.world c)
+        → (v.left_since x.moment c → (steps : List HistoryStep) × Reads size c steps × BeginsWith x.after.world.history steps)
+        → (steps : List HistoryStep) × Reads size c steps × BeginsWith stage.world.history steps
+    by_time (inl later) behind = let r = behind later in (r.0, r.1, longer stage.world.history x.after.world.history r.0 begins r.2)
+    by_time (inr (inl reads)) behind = read_begins size c stage.world.history stage.world (whole stage.world.history) reads
+    by_time (inr (inr reads)) behind = read_begins size c stage.world.history x.after.world begins reads
+
+-- The first steps of a history are a beginning of their length.
+front_of : (front last : List HistoryStep) → BeginsWith front last → take (length front) last ≡ front
+front_of front last begins = ap (λ (l : List HistoryStep). take (length front) l) begins.1 ∙ take-append_seam front begins.0
+
+-- What a crash left since the moment of a mark begins with the steps that the mark counts.
+pub marks_held : (size : ℕ) (v : View) (from n : ℕ) (stage : Stage) (told untold : List Round) → AreKept size v from stage.world (told ++ untold) → IsRun size true stage (told ++ untold)
+    → AreHeld size v (stage_after stage (told ++ untold)).world.history (marks_from n told)
+marks_held size v from n stage [] untold kept run = tt
+marks_held size v from n stage (x ∷ told) untold kept run = (
+  λ c left.
+      let r = since_begins size v x.moment x.after (told ++ untold) kept.1 run.1 c left in
+      let same = front_of x.after.world.history (stage_after x.after (told ++ untold)).world.history (run_begins size x.after (told ++ untold) run.1) in
+      (r.0, r.1, (r.2.0, r.2.1 ∙ ap (λ (l : List HistoryStep). l ++ r.2.0) (sym same))),
+  marks_held size v x.moment (n + 1) x.after told untold kept.1 run.1,
+)

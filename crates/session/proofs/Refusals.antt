@@ -1,0 +1,68 @@
+-- What is handed back where a store was not opened.
+use Rattle.std.proofs.Common.{◌≡◌, inl, inr, ℕ, List, [], refl, arith, Bool, IsTrue}
+use Rattle.site_text.specs.Causes.{Rose}
+use Rattle.bank.specs.Content.{Content}
+use Rattle.bank.specs.View.{View, OnlyRead}
+use Rattle.site_history.specs.Steps.{HistoryStep}
+use Rattle.site_history.specs.Images.{IsSettled}
+use Rattle.site_history.proofs.Reopenings.{settled_after_reading}
+use Rattle.engine.specs.declared.engine.ShutCause.{ShutCause}
+use Rattle.engine.specs.declared.engine.ShutCause.TheVariants.{BankFault, BadJournal, NoMemory}
+use Rattle.engine.specs.Journals.{TellsJournal}
+use Rattle.session.specs.Session.{Outside}
+use Rattle.session.specs.Refusing.{TellsRefusal, status_of_shut}
+use Rattle.session.specs.Outcomes.{Refusal, IsRefused, HasStatus, journal_bytes}
+use Rattle.session.specs.declared.kept.Mark.{Mark}
+use Rattle.session.proofs.KeptLaws.{opening_read}
+use Rattle.session.proofs.StatusCauses.{by_bank, by_memory, by_bad_journal}
+
+-- A refusal by what shut the store.
+refusal_of : (old new : Outside) (tells : Bool) (journal : Content) (cause : ShutCause) (status : ℕ) → status ≡ status_of_shut cause
+    → (cause ≡ BankFault → Rose old.bank_faults new.bank_faults) → (IsTrue tells → TellsJournal journal_bytes journal cause)
+    → TellsRefusal old.written new.written old.sink_faults new.sink_faults cause → Refusal old new tells journal status
+refusal_of old new tells journal BankFault status is rose bad told = inl (is, rose refl, told)
+refusal_of old new tells journal NoMemory status is rose bad told = inr (inl (is, told))
+refusal_of old new tells journal (BadJournal place) status is rose bad told = inr (inr (place, is, bad, told))
+
+-- What a store tells that tells its content, one may leave untold.
+refusal_untold : (old new : Outside) (told tells : Bool) (journal : Content) (status : ℕ) → (IsTrue told → IsTrue tells) → Refusal old new tells journal status → Refusal old new told journal status
+refusal_untold old new told tells journal status so (inl r) = inl r
+refusal_untold old new told tells journal status so (inr (inl r)) = inr (inl r)
+refusal_untold old new told tells journal status so (inr (inr r)) = inr (inr (r.0, r.1, λ t. r.2 (so t), r.3))
+
+-- The causes of the status of a store that was not opened.
+refused_status : (old new : Outside) (tells : Bool) (journal : Content) (budget status : ℕ) → Refusal old new tells journal status → HasStatus tells journal budget old new status
+refused_status old new tells journal budget status (inl r) = by_bank tells journal budget old new status r.0 r.1
+refused_status old new tells journal budget status (inr (inl r)) = by_memory tells journal budget old new status r.0
+refused_status old new tells journal budget status (inr (inr r)) = by_bad_journal tells journal budget old new status r.1 (λ t. (r.0, r.2 t))
+
+-- A store that was only read, and not opened.
+pub refused_outcome : (old new : Outside) (told tells : Bool) (entry store : View) (before : List HistoryStep) (marks : List Mark) (status : ℕ) → (IsTrue told → IsTrue tells)
+    → (IsTrue tells → OnlyRead entry store) → (IsTrue told → IsSettled journal_bytes entry before) → new.left ≡ old.left → new.source_faults ≡ old.source_faults → marks ≡ []
+    → Refusal old new tells (entry.content 0) status → IsRefused told entry store old new before marks status
+refused_outcome old new told tells entry store before marks status so read settled unread no_read_failed no_marks refusal = record {
+  unread = unread;
+  no_read_failed = no_read_failed;
+  no_marks = no_marks;
+  refusal = refusal_untold old new told tells (entry.content 0) status so refusal;
+  opening = λ t. opening_read journal_bytes entry store before (read (so t)) (settled t);
+  settled = λ t. settled_after_reading journal_bytes entry store before (read (so t)) (settled t);
+}
+
+module _ (old new : Outside) (tells : Bool) (entry store : View) (cause : ShutCause) (status : ℕ) (is : status ≡ status_of_shut cause) (rose : cause ≡ BankFault → Rose old.bank_faults new.bank_faults)
+    (bad : IsTrue tells → TellsJournal journal_bytes (entry.content 0) cause) (written : TellsRefusal old.written new.written old.sink_faults new.sink_faults cause) where
+  -- What was handed back by a store that was shut.
+  pub shut_outcome : (told : Bool) (before : List HistoryStep) (marks : List Mark) → (IsTrue told → IsTrue tells) → (IsTrue tells → OnlyRead entry store) → (IsTrue told → IsSettled journal_bytes entry before)
+      → new.left ≡ old.left → new.source_faults ≡ old.source_faults → marks ≡ [] → IsRefused told entry store old new before marks status
+  shut_outcome told before marks so read settled unread no_read_failed no_marks =
+      refused_outcome old new told tells entry store before marks status so read settled unread no_read_failed no_marks (refusal_of old new tells (entry.content 0) cause status is rose bad written)
+
+  -- The causes of its status.
+  pub shut_status : (budget : ℕ) → HasStatus tells (entry.content 0) budget old new status
+  shut_status budget = refused_status old new tells (entry.content 0) budget status (refusal_of old new tells (entry.content 0) cause status is rose bad written)
+
+-- No refusal has status 1.
+pub refusal_exits : (old new : Outside) (tells : Bool) (journal : Content) (status : ℕ) → Refusal old new tells journal status → status ≡ 1 → ⊥
+refusal_exits old new tells journal status (inl r) h = omega (arith, r.0, h)
+refusal_exits old new tells journal status (inr (inl r)) h = omega (arith, r.0, h)
+refusal_exits old new tells journal status (inr (inr r)) h = omega (arith, r.1, h)

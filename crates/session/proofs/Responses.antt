@@ -1,0 +1,111 @@
+-- What is answered to what was asked, and where the engine stands then.
+use Rattle.std.proofs.Common.{◌≡◌, ◌⊎◌, inl, inr, ℕ, ◌≤◌, refl, sym, ◌∙◌, ap, subst, arith, Bool, IsTrue, Result, Ok, Err}
+use Rattle.std.specs.Prelude.{max}
+use Rattle.site_text.specs.Causes.{Rose, AreCounted}
+use Rattle.bank.specs.View.{View, IsSound}
+use Rattle.bank.proofs.Moments.{started}
+use Rattle.records.specs.declared.event.Asked.{Asked}
+use Rattle.records.specs.declared.event.Asked.TheVariants.{One, At as AskedAt}
+use Rattle.records.specs.declared.event.Event.{Event}
+use Rattle.records.specs.declared.reply.LineRefusal.{LineRefusal}
+use Rattle.records.specs.declared.reply.LineRefusal.TheVariants.{NotACommand, BadWord, LineTooLong, NoMemory as WantOfMemory}
+use Rattle.records.specs.declared.reply.Reply.{Reply}
+use Rattle.records.specs.declared.reply.Reply.TheVariants.{Line, At, BankFault, NoMemory}
+use Rattle.site_history.specs.Worlds.{World, EventTurn}
+use Rattle.site_history.specs.Images.{ReadsAs}
+use Rattle.engine.specs.declared.kept.Engine.{Engine}
+use Rattle.engine.specs.StandsFor.{StandsFor, Moves}
+use Rattle.session.specs.Asking.{Request, reply_to}
+use Rattle.session.specs.Hearing.{IsReadAs}
+use Rattle.session.specs.Rounds.{Stage, IsRoundOf, faults_of}
+
+-- A reply that tells a fault comes where the store counted one.
+pub counted_reply : (reply : Reply) (before now : ℕ) → (reply ≡ BankFault → Rose before now) → before ≤ now → AreCounted before (faults_of reply) now
+counted_reply BankFault before now fault later = fault refl
+counted_reply _ before now fault later = omega (arith, later)
+
+-- Want of memory may be answered to any request.
+memory_lost : (size : ℕ) (told : Bool) (stage : Stage) (request : Request) → IsRoundOf size told stage request NoMemory stage
+memory_lost size told stage (Err refusal) = (inr refl, refl)
+memory_lost size told stage (Ok (One event)) = inl (refl, refl)
+memory_lost size told stage (Ok (AskedAt moment)) = inl (refl, refl)
+memory_lost size told stage (Ok _) = (inr refl, refl)
+
+-- What was read, where it is the same.
+pub read_alike : (asked same : Result Asked LineRefusal) (request : Request) → asked ≡ same → IsReadAs asked request → IsReadAs same request
+read_alike asked same request e read = subst (λ (a : Result Asked LineRefusal). IsReadAs a request) e read
+
+-- What was read is the request, unless no memory was found for it.
+request_read : (asked : Asked) (request : Request) → IsReadAs (Ok asked) request → Ok asked ≡ request
+request_read asked request (inl e) = e
+request_read asked request (inr e) = absurd (cc)
+
+-- What is asked otherwise than by an event or a moment is no command.
+no_command : (size : ℕ) (told : Bool) (stage : Stage) (asked : Asked) → ((event : Event) → asked ≡ One event → ⊥) → ((moment : ℕ) → asked ≡ AskedAt moment → ⊥)
+    → IsRoundOf size told stage (Ok asked) (Line NotACommand) stage
+no_command size told stage (One event) not_one not_at = absurd (not_one event refl)
+no_command size told stage (AskedAt moment) not_one not_at = absurd (not_at moment refl)
+no_command size told stage _ not_one not_at = (inl refl, refl)
+
+-- A refused line is answered as it is defined.
+refused_round : (size : ℕ) (told : Bool) (stage : Stage) (refusal : LineRefusal) (request : Request) → IsReadAs (Err refusal) request → IsRoundOf size told stage request (reply_to refusal) stage
+refused_round size told stage WantOfMemory request read = memory_lost size told stage request
+refused_round size told stage NotACommand request (inl e) = subst (λ (r : Request). IsRoundOf size told stage r (Line NotACommand) stage) e (inl refl, refl)
+refused_round size told stage NotACommand request (inr e) = absurd (cc)
+refused_round size told stage (BadWord number) request (inl e) = subst (λ (r : Request). IsRoundOf size told stage r (Line (BadWord number)) stage) e (inl refl, refl)
+refused_round size told stage (BadWord number) request (inr e) = absurd (cc)
+refused_round size told stage LineTooLong request (inl e) = subst (λ (r : Request). IsRoundOf size told stage r (Line LineTooLong) stage) e (inl refl, refl)
+refused_round size told stage LineTooLong request (inr e) = absurd (cc)
+
+module _ {B P : Type 0} (told : Bool) (view : B → View) (engine : Engine B P) (stage : Stage) (now : ℕ) (stands : StandsFor told view engine stage.world) (same_now : stage.now ≡ now) where
+  -- The round that a reply makes, where the engine stands after it, and the moment of the events then.
+  abbrev pub Responds : ℕ → Request → Reply → Engine B P → ℕ → Type 0
+  Responds size request reply engine' now' = (stage' : Stage) × IsRoundOf size told stage request reply stage' × Moves told view engine engine' stage.world stage'.world × (now' ≡ stage'.now)
+
+  -- The engine was not asked.
+  still : (IsTrue told → IsSound (view engine.bank)) → (w : World) → w ≡ stage.world → Moves told view engine engine stage.world w
+  still sound w same = subst (λ (x : World). Moves told view engine engine stage.world x) (sym same)
+      (record { stands = stands; moments = λ t. started (view engine.bank) (λ c. ReadsAs engine.journal.size stage.world c ⊎ ReadsAs engine.journal.size stage.world c) (sound t) (λ c image. inl (stands.images t c image)) })
+
+  -- An event was answered by the engine.
+  pub event_response : (size area : ℕ) (event : Event) (request : Request) (reply : Reply) (engine' : Engine B P) → IsReadAs (Ok (One event)) request
+      → (w' : World) × EventTurn size told stage.world event now area reply w' × Moves told view engine engine' stage.world w'
+      → Responds size request reply engine' now
+  event_response size area event request reply engine' read turn = (
+    record { world = turn.0; now = stage.now },
+    subst (λ (r : Request). IsRoundOf size told stage r reply (record { world = turn.0; now = stage.now })) (request_read (One event) request read)
+        (inr (area, turn.0, subst (λ (n : ℕ). EventTurn size told stage.world event n area reply turn.0) (sym same_now) turn.1, refl)),
+    turn.2,
+    sym same_now,
+  )
+
+  module _ (sound : IsTrue told → IsSound (view engine.bank)) where
+    -- The moment of the events moved on.
+    pub at_response : (size moment moved : ℕ) (request : Request) → IsReadAs (Ok (AskedAt moment)) request → moved ≡ max moment now → Responds size request (At moved) engine moved
+    at_response size moment moved request read is =
+        let moved_on : moved ≡ max moment stage.now = is ∙ ap (λ (n : ℕ). max moment n) (sym same_now) in (
+          record { world = stage.world; now = max moment stage.now },
+          subst (λ (r : Request). IsRoundOf size told stage r (At moved) (record { world = stage.world; now = max moment stage.now })) (request_read (AskedAt moment) request read)
+              (inr (ap (λ (n : ℕ). At n) moved_on, refl)),
+          still sound stage.world refl,
+          moved_on,
+        )
+
+    -- What was asked is no command.
+    pub other_response : (size : ℕ) (asked : Asked) (request : Request) → ((event : Event) → asked ≡ One event → ⊥) → ((moment : ℕ) → asked ≡ AskedAt moment → ⊥) → IsReadAs (Ok asked) request
+        → Responds size request (Line NotACommand) engine now
+    other_response size asked request not_one not_at read = (
+      stage,
+      subst (λ (r : Request). IsRoundOf size told stage r (Line NotACommand) stage) (request_read asked request read) (no_command size told stage asked not_one not_at),
+      still sound stage.world refl,
+      sym same_now,
+    )
+
+    -- The line was refused, or no memory was found for it.
+    pub refused_response : (size : ℕ) (refusal : LineRefusal) (request : Request) (reply : Reply) → IsReadAs (Err refusal) request → reply ≡ reply_to refusal → Responds size request reply engine now
+    refused_response size refusal request reply read is = (
+      stage,
+      subst (λ (r : Reply). IsRoundOf size told stage request r stage) (sym is) (refused_round size told stage refusal request read),
+      still sound stage.world refl,
+      sym same_now,
+    )

@@ -1,0 +1,79 @@
+-- The steps of puts, reads and removals are in range, and short enough for a record. `put_in_range` and `put_short` serve the
+-- code that writes a put's step down, which knows the rules that it tested; `bare_in_range` and `bare_short` that of a read and
+-- of a removal; `legal-payload` any step that may come.
+use Rattle.std.proofs.Common.{◌≡◌, ℕ, ◌<◌, ◌≤◌, ◌^◌, List, length, arith, true}
+use Rattle.std.specs.Prelude.{IsTrue}
+use Rattle.std.specs.List.{AllByRecursion}
+use Rattle.std.proofs.lemmas.Bool.Decides.{nat_tests}
+use Rattle.records.specs.Paths.{is_legal_path, is_legal_name}
+use Rattle.records.specs.Lengths.{step_length}
+use Rattle.records.specs.Ranges.{IsRun, IsInode}
+use Rattle.records.specs.Written.{written, InRange}
+use Rattle.records.proofs.Lengths.{length-written, written_some}
+use Rattle.records.proofs.InRange.{in_range}
+use Rattle.records.specs.declared.step.Step.{Step}
+use Rattle.records.specs.declared.step.StepKind.{StepKind}
+use Rattle.records.specs.declared.step.StepKind.TheVariants.{Put, Accessed, Removed}
+use Rattle.cache_space.specs.Blocks.{blocks_for}
+use Rattle.journal.specs.Records.{IsPayload}
+use Rattle.site_history.specs.Site.{Fields}
+use Rattle.site_history.specs.Steps.{PutOf, IsLegal}
+use Rattle.site_history.proofs.RunRanges.{maximal-few}
+
+-- the step of a put
+abbrev pub step_of : ℕ → PutOf → Step
+step_of moment put = record { moment = moment; kind = Put put.inode put.path put.owner put.group put.length put.runs }
+
+-- a legal path has at most 1,024 bytes, and a legal name 32
+pub path_short : (path : List ℕ) → is_legal_path path ≡ true → length path ≤ 1024
+unfolding is_legal_path
+path_short path e = grind (arith, nat_tests, e)
+
+pub name_short : (name : List ℕ) → is_legal_name name ≡ true → length name ≤ 32
+unfolding is_legal_name
+name_short name e = grind (arith, nat_tests, e)
+
+-- a put of so few runs
+module _ (put : PutOf) (small : put.length ≤ 16777216) (legal_path : IsTrue (is_legal_path put.path)) (legal_owner : IsTrue (is_legal_name put.owner)) (legal_group : IsTrue (is_legal_name put.group))
+    (few : length put.runs ≤ blocks_for put.length) where
+  pub put_in_range : (moment : ℕ) → moment < 2 ^ 40 → IsInode put.inode → AllByRecursion IsRun put.runs → InRange (step_of moment put)
+  put_in_range moment range inode fit = in_range (step_of moment put) range (
+    inode,
+    omega (arith, path_short put.path legal_path),
+    omega (arith, name_short put.owner legal_owner),
+    omega (arith, name_short put.group legal_group),
+    omega (arith, small),
+    (omega (arith, few, small), fit),
+  )
+
+  pub put_short : (moment : ℕ) → step_length (step_of moment put) ≤ 1048576
+  put_short moment = omega (arith, path_short put.path legal_path, name_short put.owner legal_owner, name_short put.group legal_group, few, small)
+
+-- a read and a removal
+pub accessed_in_range : (moment inode : ℕ) → moment < 2 ^ 40 → IsInode inode → InRange (record { moment = moment; kind = Accessed inode })
+accessed_in_range moment inode range is = in_range (record { moment = moment; kind = Accessed inode }) range is
+
+pub removed_in_range : (moment inode : ℕ) → moment < 2 ^ 40 → IsInode inode → InRange (record { moment = moment; kind = Removed inode })
+removed_in_range moment inode range is = in_range (record { moment = moment; kind = Removed inode }) range is
+
+pub accessed_short : (moment inode : ℕ) → step_length (record { moment = moment; kind = Accessed inode }) ≤ 1048576
+accessed_short moment inode = omega arith
+
+pub removed_short : (moment inode : ℕ) → step_length (record { moment = moment; kind = Removed inode }) ≤ 1048576
+removed_short moment inode = omega arith
+
+-- the written form of a short step is a payload
+pub short-payload : (step : Step) → step_length step ≤ 1048576 → IsPayload (written step)
+short-payload step short = (written_some step, omega (arith, length-written step, short))
+
+legal_short : (fields : Fields) (moment : ℕ) (kind : StepKind) → IsLegal fields (record { moment = moment; kind = kind }) → step_length (record { moment = moment; kind = kind }) ≤ 1048576
+legal_short fields moment (Put inode path owner group size runs) legal =
+    put_short (record { inode = inode; path = path; owner = owner; group = group; length = size; runs = runs }) legal.2.small legal.2.path legal.2.owner legal.2.group
+    (omega (arith, maximal-few runs legal.2.maximal, legal.2.blocks)) moment
+legal_short fields moment (Accessed inode) legal = accessed_short moment inode
+legal_short fields moment (Removed inode) legal = removed_short moment inode
+legal_short fields moment _ legal = absurd legal.2
+
+-- a step that may come has a written form that a record takes
+pub legal-payload : (fields : Fields) (step : Step) → IsLegal fields step → IsPayload (written step)
+legal-payload fields step legal = short-payload step (legal_short fields step.moment step.kind legal)

@@ -1,0 +1,22 @@
+//! Laws of images.
+
+ghost use Rattle.std.specs.Prelude.{◌≢◌, ℕ, [], IsTrue};
+ghost use Rattle.bank.specs.Content.{Image};
+ghost use Rattle.bank.specs.View.{IsImage};
+ghost use Rattle.site_history.specs.Images.{AgreeingReadAlike, IsSettled};
+
+use bank::Bank;
+
+/// Two images that agree in the journal's area and wherever the bytes of a history's files lie read alike: if one of them
+/// reads as that history, so does the other. It does nothing when it is called; its clause is the law.
+pub fn agreeing_read_alike()
+    ensures { AgreeingReadAlike }
+{}
+
+/// A store whose journal begins with a closed gate, whatever a crash leaves, is settled for the history of no step: that is the
+/// premise of a first run. It does nothing when it is called; its clause is the law.
+pub fn fresh_store_is_settled<B: Bank>(bank: &B)
+    ensures { IsTrue B.tells → (size : ℕ) → ((c : Image) → IsImage (B.view bank.now) c → c 0 0 ≢ 1) → IsSettled size (B.view bank.now) [] }
+{
+    let _ = bank;
+}
