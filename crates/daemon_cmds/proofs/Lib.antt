@@ -1,0 +1,6 @@
+mod CopyNumbers
+mod LastOptions
+mod NoRecycleLines
+mod EachLibrary
+mod KnownLibraries
+mod LastSettings

@@ -1,0 +1,13 @@
+pub mod Plain
+pub mod OneMeaning
+pub mod Barred
+pub mod BarredLaws
+pub mod SiteLines
+pub mod SiteTold
+pub mod StagerLines
+pub mod StagerTold
+pub mod ReleaserLines
+pub mod ReleaserTold
+pub mod RecyclerLines
+pub mod RecyclerLaws
+pub mod RecyclerTold

@@ -1,0 +1,214 @@
+//! Reading releaser.cmd.
+
+ghost use Rattle.std.specs.Prelude.{◌≡◌, ◌≤◌, ℕ, length, List as Seq, IfOk, Some, None};
+ghost use Rattle.site_text.specs.Files.{FileAnswers};
+ghost use Rattle.daemon_cmds.specs.OneMeaning.{SaysOneThing};
+ghost use Rattle.daemon_cmds.specs.Plain.{no_section};
+ghost use Rattle.daemon_cmds.specs.ReleaserLines.{same_part};
+ghost use Rattle.daemon_cmds.specs.ReleaserTold.{ReleaserLineSays, ReleaserLineWrong, KnowsReleaser, TellsReleaser, ComesTo, nothing_set, with_setting, weight_or_one, has_separate, separate_hold, age_weights};
+
+use crate::releaser_conf::{
+    AgeWeights, PartSetting, ReleaserConf, ReleaserReading, ReleaserSoFar, Setting, Settings,
+    Weight,
+};
+use crate::releaser_lines::read_releaser_line;
+use crate::site_conf::SiteConf;
+use site_text::{
+    Bytes, CommandFile, ConfError, Line, LineError, List, each_text_says_one_thing, read_file,
+};
+use std::alloc::{AllocError, Global};
+
+fn nothing_set() -> Settings
+    ensures { result ≡ nothing_set }
+{
+    Settings {
+        age: None,
+        access: None,
+        modify: None,
+        residence: None,
+        size: None,
+        min_residence_age: None,
+        no_release: false,
+        rearch_no_release: false,
+    }
+}
+
+/// The same with one thing set anew.
+fn with_setting(settings: &Settings, setting: Setting) -> Settings
+    ensures { result ≡ with_setting settings.now setting }
+{
+    let mut settings = *settings;
+    match setting {
+        Setting::Weight(Weight::Age, n) => settings.age = Some(n),
+        Setting::Weight(Weight::Access, n) => settings.access = Some(n),
+        Setting::Weight(Weight::Modify, n) => settings.modify = Some(n),
+        Setting::Weight(Weight::Residence, n) => settings.residence = Some(n),
+        Setting::Weight(Weight::Size, n) => settings.size = Some(n),
+        Setting::MinResidenceAge(n) => settings.min_residence_age = Some(n),
+        Setting::NoRelease => settings.no_release = true,
+        Setting::RearchNoRelease => settings.rearch_no_release = true,
+    }
+    settings
+}
+
+fn is_global(part: &Option<Bytes>) -> bool
+    ensures { result ≡ same_part part.now None }
+{
+    part.is_none()
+}
+
+fn is_part_of(part: &Option<Bytes>, name: &[u8]) -> bool
+    ensures { result ≡ same_part part.now (Some name.now) }
+{
+    match part {
+        Some(part) => part.as_slice() == name,
+        None => false,
+    }
+}
+
+fn copy_part(part: &Option<Bytes>) -> Result<Option<Bytes>, AllocError>
+    ensures { IfOk result (λ p. p ≡ part.now) }
+{
+    match part {
+        Some(name) => Ok(Some(name.copy()?)),
+        None => Ok(None),
+    }
+}
+
+#[derive(Drop)]
+struct ReleaserFile<'a> {
+    site: &'a SiteConf,
+}
+
+impl CommandFile for ReleaserFile<'_> {
+    ghost use Rattle.daemon_cmds.specs.Plain.{no_section};
+    ghost use Rattle.daemon_cmds.specs.ReleaserTold.{releaser_line, ReleaserLineSays, ReleaserLineWrong, KnowsReleaser, part_of, given_of};
+    ghost use Rattle.daemon_cmds.specs.ReleaserLines.{releaser_bars, releaser_names, releaser_bare};
+    ghost use Rattle.daemon_cmds.specs.BarredLaws.{barred_said, barred_wrong, barred_read, barred_refused};
+
+    type Reading = ReleaserReading;
+
+    type Known = ReleaserSoFar;
+
+    ghost line_of = { λ file. releaser_line };
+
+    ghost line_says = { λ file. ReleaserLineSays };
+
+    ghost line_wrong = { λ file. ReleaserLineWrong };
+
+    ghost open_section = { λ file. no_section };
+
+    ghost tells = { λ file. KnowsReleaser file.site.now };
+
+    fn start(&self, alloc: Global) -> Result<ReleaserSoFar, AllocError> {
+        Ok(ReleaserSoFar {
+            part: None,
+            given: List::new(alloc),
+            global: nothing_set(),
+            local: nothing_set(),
+        })
+    }
+
+    fn read_line(
+        &self,
+        alloc: Global,
+        known: &ReleaserSoFar,
+        line: &Line,
+    ) -> Result<ReleaserReading, LineError> {
+        read_releaser_line(alloc, &known.part, &known.given, line.fields.as_slice())
+    }
+
+    #[tactic(auto, using(crate::proofs::LastSettings::set_in))]
+    fn add(&self, known: &mut ReleaserSoFar, reading: ReleaserReading) -> Result<(), AllocError> {
+        match reading {
+            ReleaserReading::Part(name) => known.part = Some(name),
+            ReleaserReading::Set(setting) => {
+                let part = copy_part(&known.part)?;
+                if is_global(&part) {
+                    known.global = with_setting(&known.global, setting);
+                }
+                if is_part_of(&part, self.site.name.as_slice()) {
+                    known.local = with_setting(&known.local, setting);
+                }
+                known.given.push(PartSetting { part, setting })?;
+            }
+            ReleaserReading::Nothing => {}
+        }
+        Ok(())
+    }
+
+    fn open_section(&self, _known: &ReleaserSoFar) -> Option<u32> {
+        None
+    }
+
+    ghost reads_what_is_said = { λ file before line reading. (barred_said (releaser_bars (part_of before) (given_of before)) releaser_names releaser_bare line.fields reading, barred_read (releaser_bars (part_of before) (given_of before)) releaser_names releaser_bare line.fields reading) };
+
+    ghost refuses_what_is_wrong = { λ file before line fault. (barred_wrong (releaser_bars (part_of before) (given_of before)) releaser_names releaser_bare line.fields fault, barred_refused (releaser_bars (part_of before) (given_of before)) releaser_names releaser_bare line.fields fault) };
+}
+
+fn weight_or_one(local: Option<u32>, global: Option<u32>) -> u32
+    ensures { result ≡ weight_or_one local global }
+{
+    local.or(global).unwrap_or(1_000_000)
+}
+
+fn has_separate(settings: &Settings) -> bool
+    ensures { result ≡ has_separate settings.now }
+{
+    settings.access.is_some() || settings.modify.is_some() || settings.residence.is_some()
+}
+
+fn separate_hold(local: &Settings, global: &Settings) -> bool
+    ensures { result ≡ separate_hold local.now global.now }
+{
+    has_separate(local) || (!local.age.is_some() && has_separate(global))
+}
+
+fn age_weights(local: &Settings, global: &Settings) -> AgeWeights
+    ensures { result ≡ age_weights local.now global.now }
+{
+    if separate_hold(local, global) {
+        AgeWeights::Separate {
+            access: weight_or_one(local.access, global.access),
+            modify: weight_or_one(local.modify, global.modify),
+            residence: weight_or_one(local.residence, global.residence),
+        }
+    } else {
+        AgeWeights::Least(weight_or_one(local.age, global.age))
+    }
+}
+
+/// What the settings of the site's file system and those for all files come to.
+fn conf_of(local: &Settings, global: &Settings) -> ReleaserConf
+    ensures { ComesTo local.now global.now result }
+{
+    ReleaserConf {
+        ages: age_weights(local, global),
+        size: weight_or_one(local.size, global.size),
+        min_residence_age: local
+            .min_residence_age
+            .or(global.min_residence_age)
+            .unwrap_or(600),
+        no_release: local.no_release || global.no_release,
+        rearch_no_release: local.rearch_no_release || global.rearch_no_release,
+    }
+}
+
+/// What a text of releaser.cmd says in this site, or its first wrong line and what is wrong with it. An empty text says weights
+/// of 1.0 for the least age and for the size, a residence of at least 600 seconds, and that files are released.
+pub fn read_releaser(alloc: Global, text: &[u8], site: &SiteConf) -> Result<ReleaserConf, ConfError>
+    requires { length text.now ≤ 65536 }
+    ensures { FileAnswers ReleaserLineSays ReleaserLineWrong no_section (TellsReleaser site.now) text.now result }
+{
+    match read_file(alloc, &ReleaserFile { site }, text) {
+        Ok(known) => Ok(conf_of(&known.local, &known.global)),
+        Err(error) => Err(error),
+    }
+}
+
+/// Each text says one list of readings of releaser.cmd in this site, or has one refusal, and not both.
+pub fn each_releaser_says_one_thing(site: &SiteConf)
+    ensures { (text : Seq ℕ) → SaysOneThing ReleaserLineSays ReleaserLineWrong no_section text }
+{
+    each_text_says_one_thing::<ReleaserFile>(&ReleaserFile { site })
+}

@@ -1,0 +1,25 @@
+//! What stager.cmd says.
+
+use site_text::List;
+
+/// How files are staged.
+#[derive(Drop)]
+pub struct StagerConf {
+    /// For each library of the site, in its order: how many of its drives stage files, 0 to 64. With 0 no file is staged from it.
+    pub drives: List<u32>,
+    /// How many files the stage queue holds at most, 1 to 65,536.
+    pub maxactive: u32,
+    /// The numbers 1 to 4 in the order in which a file's copies are tried.
+    pub copysel: List<u8>,
+}
+
+/// What one line says.
+#[derive(Drop)]
+pub enum StagerReading {
+    /// The place of a library among the site's, and the drives.
+    Drives(usize, u32),
+    MaxActive(u32),
+    CopySel(List<u8>),
+    /// A line that is accepted without effect.
+    Nothing,
+}
