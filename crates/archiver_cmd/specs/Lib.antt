@@ -1,0 +1,4 @@
+pub mod Levels
+pub mod Params
+pub mod Conf
+pub mod OneMeaning

@@ -1,0 +1,12 @@
+-- Each text says one list of readings, or has one refusal, and not both.
+use Rattle.std.specs.Prelude.{◌≡◌, ℕ, List, Option, ◌⊎◌}
+use Rattle.site_text.specs.declared.line.Line.{Line}
+use Rattle.site_text.specs.declared.fault.ConfFault.{ConfFault}
+use Rattle.site_text.specs.declared.fault.ConfRefusal.{ConfRefusal}
+use Rattle.site_text.specs.Files.{FileSays, FileWrong}
+
+pub record SaysOneThing {R : Type 0} (LineSays : List R → Line → R → Type 0) (LineWrong : List R → Line → ConfFault → Type 0) (open_section : List R → Option ℕ) (text : List ℕ) : Type 0 where
+  pub something : ((said : List R) × FileSays LineSays open_section text said) ⊎ ((refusal : ConfRefusal) × FileWrong LineSays LineWrong open_section text refusal)
+  pub one_meaning : (said other : List R) → FileSays LineSays open_section text said → FileSays LineSays open_section text other → said ≡ other
+  pub not_both : (said : List R) (refusal : ConfRefusal) → FileSays LineSays open_section text said → FileWrong LineSays LineWrong open_section text refusal → ⊥
+  pub one_refusal : (refusal other : ConfRefusal) → FileWrong LineSays LineWrong open_section text refusal → FileWrong LineSays LineWrong open_section text other → refusal ≡ other

@@ -1,0 +1,10 @@
+pub mod LastDot
+pub mod Items
+pub mod PoolTexts
+pub mod LastCriteria
+pub mod Tests
+pub mod CopyLaws
+pub mod NameLaws
+pub mod AssignLaws
+pub mod SectionLaws
+pub mod LineLaws

@@ -1,0 +1,12 @@
+pub mod Names
+pub mod Criteria
+pub mod ParamOptions
+pub mod Kinds
+pub mod ValueForms
+pub mod CopyLines
+pub mod Paths
+pub mod Assignments
+pub mod SectionLines
+pub mod Told
+pub mod Lines
+pub mod Says

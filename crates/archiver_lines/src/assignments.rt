@@ -1,0 +1,96 @@
+//! Assignment lines.
+
+ghost use Rattle.std.specs.Prelude.{◌≡◌, fold};
+ghost use Rattle.site_text.specs.Fields.{Gives};
+ghost use Rattle.archiver_lines.specs.Assignments.{bare, with_criterion, assign_line};
+
+use crate::criteria::{Criterion, Release, Stage, read_criteria};
+use crate::names::{MOST_SETS, is_set_name, set_place};
+use crate::paths::is_set_path;
+use crate::reading::{Assignment, Local, Reading};
+use site_text::{Bytes, ConfFault, Fields, LineError, List, unless};
+use std::alloc::Global;
+
+/// The limit on the number of assignment lines.
+const MOST_LINES: usize = 64;
+
+/// An assignment without criteria and attributes.
+fn bare(line: u32, set: u32, local: Local, path: Bytes) -> Assignment
+    ensures { result ≡ bare line set local path }
+{
+    Assignment {
+        line,
+        set,
+        local,
+        path,
+        name: None,
+        user: None,
+        group: None,
+        minsize: None,
+        maxsize: None,
+        access: None,
+        release: Release::Default,
+        stage: Stage::Default,
+    }
+}
+
+/// What a criterion says stands in place of what was said before.
+fn add_criterion(assignment: &mut Assignment, criterion: Criterion)
+    ensures { assignment.new ≡ with_criterion assignment.old criterion }
+{
+    match criterion {
+        Criterion::Name(name) => assignment.name = Some(name),
+        Criterion::User(user) => assignment.user = Some(user),
+        Criterion::Group(group) => assignment.group = Some(group),
+        Criterion::Minsize(size) => assignment.minsize = Some(size),
+        Criterion::Maxsize(size) => assignment.maxsize = Some(size),
+        Criterion::Access(age) => assignment.access = Some(age),
+        Criterion::Release(release) => assignment.release = release,
+        Criterion::Stage(stage) => assignment.stage = stage,
+    }
+}
+
+fn add_criteria(assignment: &mut Assignment, given: List<Criterion>)
+    ensures { assignment.new ≡ fold with_criterion assignment.old given }
+{
+    for criterion in given.into_vec() {
+        add_criterion(assignment, criterion);
+    }
+}
+
+/// The lines before an assignment line, as far as it wants to know them.
+#[derive(Clone, Copy)]
+pub struct AssignedBefore<'a> {
+    pub local: Local,
+    /// The number of assignment lines.
+    pub lines: usize,
+    pub sets: &'a [Bytes],
+}
+
+/// `SET PATH` and criteria and attributes, at the line of this number.
+#[tactic(auto, using(crate::proofs::LastCriteria::criteria_told), unfolding(crate::specs::Assignments::assign_line))]
+pub fn assign_line(
+    alloc: Global,
+    before: &AssignedBefore,
+    number: u32,
+    field: &[u8],
+    fields: &[Bytes],
+) -> Result<Reading, LineError>
+    ensures { Gives (λ reading. reading) result (assign_line before.now.local before.now.lines before.now.sets.now number field.now fields.now) }
+{
+    unless(!is_set_name(field), ConfFault::BadValue)?;
+    let set = set_place(before.sets, field);
+    if MOST_LINES <= before.lines || MOST_SETS <= set {
+        return Err(LineError::Fault(ConfFault::TooMany));
+    }
+    unless(field == b"allsets".as_slice(), ConfFault::Conflict)?;
+    let mut fields = Fields::new(fields);
+    let path = fields.next()?;
+    unless(!is_set_path(path), ConfFault::BadValue)?;
+    let mut given = List::new(alloc);
+    read_criteria(alloc, &mut given, fields)?;
+    let path = Bytes::from_slice(alloc, path)?;
+    let mut assignment = bare(number, set as u32, before.local, path);
+    add_criteria(&mut assignment, given);
+    Ok(Reading::Assign(Bytes::from_slice(alloc, field)?, assignment))
+}

@@ -1,0 +1,194 @@
+//! Lines of sections.
+
+ghost use Rattle.std.specs.Prelude.{◌≡◌, ◌++◌, ◌∷◌, ◌&&◌, [], ◌≤◌, length, OnOk, IfOk, IfErr, map};
+ghost use Rattle.site_text.specs.Fields.{Gives, Fails};
+ghost use Rattle.site_text.specs.Forms.{read_form};
+ghost use Rattle.archiver_lines.specs.SectionLines.{expr_of, is_of_pool, exprs_at, pool_exprs, is_pool, items_of, pool_form, params_line, vsns_line};
+
+use crate::names::{SetNames, copy_name};
+use crate::param_options::read_param_options;
+use crate::reading::{ParamsLine, PoolLine, VsnExpr, VsnsLine};
+use site_text::{Bytes, ConfFault, Fields, LineError, List, is_media, unless};
+use std::alloc::{AllocError, Global};
+
+/// `NAME` and options, behind these lines of params.
+#[tactic(auto, unfolding(crate::specs::SectionLines::params_line))]
+pub fn params_line(
+    alloc: Global,
+    names: &SetNames,
+    lines: &[ParamsLine],
+    field: &[u8],
+    fields: &[Bytes],
+) -> Result<ParamsLine, LineError>
+    ensures { Gives (λ line. line) result (params_line names.now.site.now names.now.file_systems.now names.now.sets.now lines.now field.now fields.now) }
+{
+    let name = copy_name(alloc, names, field)?;
+    let mut given = List::new(alloc);
+    read_param_options(alloc, lines, &name, &mut given, Fields::new(fields))?;
+    Ok(ParamsLine { name, given })
+}
+
+/// Copies of a field and of those behind it.
+fn texts_of(alloc: Global, first: &[u8], fields: Fields) -> Result<List<Bytes>, AllocError>
+    ensures { IfOk result (λ texts. texts ≡ first.now ∷ fields.entry) }
+{
+    let mut texts = List::new(alloc);
+    texts.push(Bytes::from_slice(alloc, first)?)?;
+    let mut fields = fields;
+    while let Some(text) = fields.take() {
+        texts.push(Bytes::from_slice(alloc, text)?)?;
+    }
+    Ok(texts)
+}
+
+/// `POOL MEDIA EXPR..`, at the line of this number.
+pub fn pool_line(alloc: Global, number: u32, fields: &[Bytes]) -> Result<PoolLine, LineError>
+    ensures { Gives (λ line. line) result (read_form (pool_form number) fields.now) }
+{
+    let mut fields = Fields::new(fields);
+    let pool = fields.next()?;
+    let media = fields.next()?;
+    if !is_media(media) {
+        return Err(LineError::Fault(ConfFault::BadValue));
+    }
+    let first = fields.next()?;
+    let texts = texts_of(alloc, first, fields)?;
+    let pool = Bytes::from_slice(alloc, pool)?;
+    let media = Bytes::from_slice(alloc, media)?;
+    Ok(PoolLine {
+        pool,
+        media,
+        texts,
+        line: number,
+    })
+}
+
+fn expr_of(alloc: Global, media: &[u8], text: &[u8], line: u32) -> Result<VsnExpr, AllocError>
+    ensures { IfOk result (λ expr. expr ≡ expr_of media.now line text.now) }
+{
+    let media = Bytes::from_slice(alloc, media)?;
+    let text = Bytes::from_slice(alloc, text)?;
+    Ok(VsnExpr { media, text, line })
+}
+
+/// The line is of this pool and media type.
+fn is_of_pool(pool: &[u8], media: &[u8], line: &PoolLine) -> bool
+    ensures { result ≡ is_of_pool pool.now media.now line.now }
+{
+    line.pool.as_slice() == pool && line.media.as_slice() == media
+}
+
+fn put_line(alloc: Global, found: &mut List<VsnExpr>, line: &PoolLine) -> Result<(), AllocError>
+    ensures { OnOk result (found.new ≡ found.old ++ map (expr_of line.now.media line.now.line) line.now.texts) }
+{
+    for text in line.texts.as_slice() {
+        found.push(expr_of(alloc, line.media.as_slice(), text.as_slice(), line.line)?)?;
+    }
+    Ok(())
+}
+
+fn put_pool(
+    alloc: Global,
+    found: &mut List<VsnExpr>,
+    pools: &[PoolLine],
+    pool: &[u8],
+    media: &[u8],
+) -> Result<(), AllocError>
+    ensures { OnOk result (found.new ≡ found.old ++ pool_exprs pools.now media.now pool.now) }
+{
+    for line in pools {
+        if is_of_pool(pool, media, line) {
+            put_line(alloc, found, line)?;
+        }
+    }
+    Ok(())
+}
+
+/// There is a pool of this name.
+fn is_pool(pools: &[PoolLine], name: &[u8]) -> bool
+    ensures { result ≡ is_pool pools.now name.now }
+{
+    pools.iter().any(|p| p.pool.as_slice() == name)
+}
+
+/// What the items of a vsns line stand on.
+#[derive(Clone, Copy)]
+struct Items<'a> {
+    pools: &'a [PoolLine],
+    media: &'a [u8],
+    /// The number of the line.
+    line: u32,
+}
+
+/// Puts the expressions of the first item at the end.
+#[tactic(auto, using(crate::proofs::Items::item_alone, crate::proofs::Items::item_pool, crate::proofs::Items::pool_missing, crate::proofs::Items::pool_unknown))]
+fn add_item(
+    alloc: Global,
+    items: &Items,
+    found: &mut List<VsnExpr>,
+    first: &[u8],
+    fields: &mut Fields,
+) -> Result<(), LineError>
+    ensures read { OnOk result (items_of items.now.pools.now items.now.media.now items.now.line found.old (first.now ∷ fields.old)
+        ≡ items_of items.now.pools.now items.now.media.now items.now.line found.new fields.new) }
+    ensures shorter { length fields.new ≤ length fields.old }
+    ensures wrong { IfErr result (λ error. Fails error (items_of items.now.pools.now items.now.media.now items.now.line found.old (first.now ∷ fields.old))) }
+{
+    if first != b"-pool".as_slice() {
+        found.push(expr_of(alloc, items.media, first, items.line)?)?;
+        return Ok(());
+    }
+    let Some(pool) = fields.take() else {
+        return Err(LineError::Fault(ConfFault::MissingField));
+    };
+    if !is_pool(items.pools, pool) {
+        return Err(LineError::Fault(ConfFault::UnknownPool));
+    }
+    put_pool(alloc, found, items.pools, pool, items.media)?;
+    Ok(())
+}
+
+/// The expressions of all items.
+fn vsn_items(alloc: Global, items: &Items, fields: Fields) -> Result<List<VsnExpr>, LineError>
+    ensures { Gives (λ exprs. exprs) result (items_of items.now.pools.now items.now.media.now items.now.line [] fields.entry) }
+{
+    let mut found = List::new(alloc);
+    let mut fields = fields;
+    while let Some(first) = fields.take() {
+        match add_item(alloc, items, &mut found, first, &mut fields) {
+            Ok(()) => {}
+            Err(error) => return Err(error),
+        }
+    }
+    Ok(found)
+}
+
+/// `NAME MEDIA` and items, of at most so many expressions, behind these lines of vsnpools.
+#[tactic(auto, unfolding(crate::specs::SectionLines::vsns_line, site_text::specs::Fields::next_field))]
+pub fn vsns_line(
+    alloc: Global,
+    names: &SetNames,
+    pools: &[PoolLine],
+    room: usize,
+    number: u32,
+    field: &[u8],
+    fields: &[Bytes],
+) -> Result<VsnsLine, LineError>
+    ensures { Gives (λ line. line) result (vsns_line names.now.site.now names.now.file_systems.now names.now.sets.now pools.now room number field.now fields.now) }
+{
+    let name = copy_name(alloc, names, field)?;
+    let [media, rest @ ..] = fields else {
+        return Err(LineError::Fault(ConfFault::MissingField));
+    };
+    let media = media.as_slice();
+    unless(!is_media(media), ConfFault::BadValue)?;
+    unless(rest.is_empty(), ConfFault::MissingField)?;
+    let items = Items {
+        pools,
+        media,
+        line: number,
+    };
+    let exprs = vsn_items(alloc, &items, Fields::new(rest))?;
+    unless(room < exprs.len(), ConfFault::TooMany)?;
+    Ok(VsnsLine { name, exprs })
+}

@@ -1,0 +1,95 @@
+//! Value lines.
+
+ghost use Rattle.std.specs.Prelude.{◌≡◌};
+ghost use Rattle.site_text.specs.Fields.{Gives};
+ghost use Rattle.site_text.specs.Words.{named};
+ghost use Rattle.site_text.specs.Forms.{read_form};
+ghost use Rattle.site_text.specs.Directives.{read_directive};
+ghost use Rattle.archiver_lines.specs.ValueForms.{directives, form_of, value_names, no_words};
+ghost use Rattle.archiver_lines.specs.declared.value_lines.Directive.TheVariants as directive;
+
+use crate::reading::Reading;
+use site_text::{
+    Bytes, ConfFault, Fields, LineError, find_word, is_name, read_ignored, unless, value_line,
+};
+use std::alloc::Global;
+
+/// What a value line is about.
+#[derive(Clone, Copy, Debug, PartialEq, Eq)]
+pub enum Directive {
+    FileSystem,
+    Archivemeta,
+    /// It is accepted without effect.
+    Ignored,
+}
+
+const DIRECTIVES: [(&[u8], Directive); 14] = [
+    (b"fs", Directive::FileSystem),
+    (b"archivemeta", Directive::Archivemeta),
+    (b"bufsize", Directive::Ignored),
+    (b"directio", Directive::Ignored),
+    (b"logfile", Directive::Ignored),
+    (b"notify", Directive::Ignored),
+    (b"timeout", Directive::Ignored),
+    (b"setarchdone", Directive::Ignored),
+    (b"examine", Directive::Ignored),
+    (b"background_interval", Directive::Ignored),
+    (b"background_time", Directive::Ignored),
+    (b"interval", Directive::Ignored),
+    (b"scanlist_squash", Directive::Ignored),
+    (b"drives", Directive::Ignored),
+];
+
+fn directive_named(name: &[u8]) -> Option<Directive>
+    ensures { result ≡ named directives name.now }
+{
+    find_word(&DIRECTIVES, name)
+}
+
+/// `fs = NAME`
+fn fs_line(alloc: Global, values: Fields) -> Result<Reading, LineError>
+    ensures { Gives (λ reading. reading) result (read_form (form_of directive.FileSystem) values.entry) }
+{
+    let mut values = values;
+    let name = values.next()?;
+    if !is_name(32, name) {
+        return Err(LineError::Fault(ConfFault::BadValue));
+    }
+    values.end()?;
+    Ok(Reading::FileSystem(Bytes::from_slice(alloc, name)?))
+}
+
+/// `archivemeta = off`
+fn archivemeta_line(values: Fields) -> Result<Reading, ConfFault>
+    ensures { result ≡ read_form (form_of directive.Archivemeta) values.entry }
+{
+    let mut values = values;
+    let word = values.next()?;
+    if word != b"off".as_slice() {
+        return Err(ConfFault::BadValue);
+    }
+    values.end()?;
+    Ok(Reading::Nothing)
+}
+
+/// What a value line says.
+#[tactic(auto, unfolding(site_text::specs::Directives::form_at))]
+pub fn read_value_line(alloc: Global, fields: &[Bytes]) -> Result<Reading, LineError>
+    ensures { Gives (λ reading. reading) result (read_directive value_names no_words fields.now) }
+{
+    let [_, ..] = fields else {
+        return Err(LineError::Fault(ConfFault::MissingField));
+    };
+    let Some((name, values)) = value_line(fields) else {
+        return Err(LineError::Fault(ConfFault::UnknownDirective));
+    };
+    if name.is_empty() {
+        return Err(LineError::Fault(ConfFault::MissingField));
+    }
+    match directive_named(name) {
+        Some(Directive::FileSystem) => fs_line(alloc, values),
+        Some(Directive::Archivemeta) => Ok(archivemeta_line(values)?),
+        Some(Directive::Ignored) => Ok(read_ignored(values, Reading::Nothing)?),
+        None => Err(LineError::Fault(ConfFault::UnknownDirective)),
+    }
+}
