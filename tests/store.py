@@ -123,6 +123,78 @@ def no_space():
         check("made bytes", run(["run", folder], b"head /f3 4096\n"), (0, b"bytes 4096\n" + made + b"\n", b""))
 
 
+SITE = b"cache = 1M\nlibrary = lib 2\nvolume = lib li V1 1M\nvolume = lib li V2 1M\n"
+
+
+def configured_record(texts, moment=0):
+    payload = b"\x01" + number(moment)
+    for name in ("site.conf", "archiver.cmd", "stager.cmd", "releaser.cmd", "recycler.cmd"):
+        payload += text(texts.get(name, b""))
+    return b"\x01" + len(payload).to_bytes(4, "little") + payload
+
+
+def write_texts(folder, texts):
+    os.makedirs(folder, exist_ok=True)
+    for name, content in texts.items():
+        with open(os.path.join(folder, name), "wb") as file:
+            file.write(content)
+
+
+def configured():
+    with tempfile.TemporaryDirectory() as folder:
+        check("no command file", run(["run", folder], b"configure\n"), (0, b"ok 0\n", b""))
+        journal = configured_record({})
+        check("its journal", area(folder, 0), journal + b"\x00")
+        texts = {"site.conf": SITE, "archiver.cmd": b"s .\n1 0\n", "recycler.cmd": b"lib -hwm 90\n"}
+        write_texts(folder, texts)
+        lines = b"at 9\nconfigure\nmake /a u g 1025k 0\nmake /a u g 1M 0\nconfigure\nrm /a\nconfigure\n"
+        answers = b"at 9\nok 0\nrefused: no space\nok 1\nrefused: running\nok 1\nok 0\n"
+        check("the site of the command files", run(["run", folder], lines), (0, answers, b""))
+        journal += configured_record(texts, 9) + put_record(1, b"/a", b"u", b"g", 1048576, [(0, 256)], 9) + removed_record(1, 9)
+        journal += configured_record(texts, 9)
+        check("its journal then", area(folder, 0), journal + b"\x00")
+        for name in texts:
+            os.remove(os.path.join(folder, name))
+        lines = b"make /a u g 1025k 0\nput /a u g x\nrm /a\nconfigure\nmake /b u g 64M 0\nmake /b u g 16M 0\n"
+        answers = b"refused: no space\nok 2\nok 2\nok 0\nrefused: too large\nok 3\n"
+        check("reopened by its journal alone", run(["run", folder], lines), (0, answers, b""))
+
+
+def wrong_command_files():
+    with tempfile.TemporaryDirectory() as folder:
+        write_texts(folder, {"site.conf": SITE, "archiver.cmd": b"set1 .\n1 0\nset1 work -color red\n", "stager.cmd": b"frob\n"})
+        lines = b"configure\nmake /a u g 16M 0\nfrob\nrm\nrm /none\n"
+        answers = b"refused: archiver.cmd line 3: unknown directive\nok 1\nrefused: not a command\nrefused: bad word 2\nrefused: no file\n"
+        check("a wrong command file", run(["run", folder], lines), (0, answers, b""))
+    for name, content, answer in (
+            ("site.conf", b"cache = 1M\nfs =\n", b"refused: site.conf line 2: missing field\n"),
+            ("stager.cmd", b"\ndrives = none 1\n", b"refused: stager.cmd line 2: bad value\n"),
+            ("releaser.cmd", b"weight_size = 1.5\n", b"refused: releaser.cmd line 1: bad value\n"),
+            ("recycler.cmd", b"lib -hwm 101\n", b"refused: recycler.cmd line 1: out of range\n"),
+            ("archiver.cmd", b"#" * 65536, b"ok 0\n"),
+            ("archiver.cmd", b"#" * 65537, b"refused: too large\n"),
+            ("archiver.cmd", b"s .\n\xff\n", b"refused: archiver.cmd line 2: not text\n")):
+        with tempfile.TemporaryDirectory() as folder:
+            write_texts(folder, {"site.conf": SITE, **{name: content}})
+            check(f"{name} {content[:20]!r}", run(["run", folder], b"configure\n"), (0, answer, b""))
+
+
+def folder_that_cannot_be_read():
+    """A folder that stands where a command file should: it is there, and cannot be read."""
+    with tempfile.TemporaryDirectory() as folder:
+        write_texts(folder, {"site.conf": SITE})
+        os.mkdir(os.path.join(folder, "archiver.cmd"))
+        lines = b"configure\nmake /a u g 16M 0\nrm /a\n"
+        check("a fault of the folder", run(["run", folder], lines), (3, b"fault: folder\nok 1\nok 1\n", b""))
+        process = subprocess.Popen([SAMQ, "run", folder], stdin=subprocess.PIPE, stdout=subprocess.PIPE)
+        process.stdin.write(b"configure\n")
+        process.stdin.flush()
+        check("again", process.stdout.readline(), b"fault: folder\n")
+        os.rmdir(os.path.join(folder, "archiver.cmd"))
+        out, _ = process.communicate(b"configure\nmake /a u g 16M 0\n", 60)
+        check("mended while it runs", (process.returncode, out), (3, b"ok 0\nrefused: no space\n"))
+
+
 def state_after(script):
     """What the files hold after these lines, by their paths."""
     files = {}
@@ -130,7 +202,7 @@ def state_after(script):
         given = line.split(b" ")
         if given[0] == b"put":
             files[given[1]] = given[4]
-        else:
+        elif given[0] == b"rm":
             files.pop(given[1], None)
     return files
 
@@ -225,6 +297,31 @@ def killed_at_each_call():
             check(f"killed at call {number_of_call}: after {acknowledged} answers", (code, kept), (0, True))
 
 
+def has_small_cache(folder):
+    """Whether the site's cache is that of SITE, tried by a file that is larger, while no file is there."""
+    _, out, _ = run(["run", folder], b"make /large u g 2M 0\nrm /large\n")
+    return out.startswith(b"refused: no space")
+
+
+def killed_while_configuring():
+    """A process is killed before each of the calls of a `configure`: the site is the old one or the new one, and the new one once
+    that was acknowledged."""
+    with tempfile.TemporaryDirectory() as top:
+        def site(name):
+            folder = os.path.join(top, name)
+            write_texts(folder, {"site.conf": SITE})
+            return folder
+        _, calls = under_calls(top, site("whole"), b"configure\n")
+        seen = set()
+        for number_of_call in range(1, len(calls) + 1):
+            folder = site(str(number_of_call))
+            out, _ = under_calls(top, folder, b"configure\n", CALLS_KILL=str(number_of_call))
+            small = has_small_cache(folder)
+            seen.add(small)
+            check(f"configure killed at call {number_of_call}", small or out == b"", True)
+        check("both sites were seen", seen, {False, True})
+
+
 def words():
     for given in ([], ["run"], ["run", "a", "b"], ["walk", "a"], ["talk", "a"]):
         code, out, err = run(given, b"put /a u g hi\n")
@@ -256,11 +353,13 @@ def main():
     if not os.path.exists(SAMQ):
         print(f"skipped: {SAMQ} is not built")
         return 0
-    for test in (first_put, replaced_and_removed, several_puts, bad_journal, no_space, killed, words, locked, no_folder):
+    for test in (first_put, replaced_and_removed, several_puts, bad_journal, no_space, configured, wrong_command_files,
+                 folder_that_cannot_be_read, killed, words, locked, no_folder):
         test()
     if shutil.which("cc"):
         answers_after_syncs()
         killed_at_each_call()
+        killed_while_configuring()
     else:
         print("skipped the tests over numbered calls: no C compiler")
     print(f"{passed} passed, {failed} failed")

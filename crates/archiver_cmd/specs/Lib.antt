@@ -1,4 +1,3 @@
 pub mod Levels
 pub mod Params
 pub mod Conf
-pub mod OneMeaning

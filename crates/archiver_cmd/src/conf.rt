@@ -121,7 +121,7 @@ fn set_conf(alloc: Global, copies: &[SetCopy], name: &[u8]) -> Result<SetConf, A
     Ok(SetConf { name, copies })
 }
 
-fn set_confs(
+pub fn set_confs(
     alloc: Global,
     copies: &[SetCopy],
     names: &[Bytes],
@@ -135,33 +135,11 @@ fn set_confs(
     Ok(sets)
 }
 
-fn copy_of_name(name: &CopyName) -> Result<CopyName, AllocError>
-    ensures { IfOk result (λ copy. copy ≡ name.now) }
-{
-    match name {
-        CopyName::AllSets => Ok(CopyName::AllSets),
-        CopyName::AllSetsCopy(number) => Ok(CopyName::AllSetsCopy(*number)),
-        CopyName::SetCopy(set, number) => Ok(CopyName::SetCopy(set.copy()?, *number)),
-    }
-}
-
-fn copy_of_expr(expr: &VsnExpr) -> Result<VsnExpr, AllocError>
-    ensures { IfOk result (λ copy. copy ≡ expr.now) }
-{
-    let media = expr.media.copy()?;
-    let text = expr.text.copy()?;
-    Ok(VsnExpr {
-        media,
-        text,
-        line: expr.line,
-    })
-}
-
 fn put_exprs(found: &mut List<VsnExpr>, exprs: &[VsnExpr]) -> Result<(), AllocError>
     ensures { OnOk result (found.new ≡ found.old ++ exprs.now) }
 {
     for expr in exprs {
-        found.push(copy_of_expr(expr)?)?;
+        found.push(expr.copy()?)?;
     }
     Ok(())
 }
@@ -193,7 +171,7 @@ fn group_of(alloc: Global, lines: &[VsnsLine], name: &CopyName) -> Result<VsnsGr
     ensures { IfOk result (λ group. group ≡ record { name = name.now; exprs = exprs_under lines.now name.now }) }
 {
     let exprs = exprs_under(alloc, lines, name)?;
-    let name = copy_of_name(name)?;
+    let name = name.copy()?;
     Ok(VsnsGroup { name, exprs })
 }
 
@@ -215,7 +193,7 @@ fn add_group(
 }
 
 /// The names of some vsns lines, each with the expressions of its lines.
-fn groups_of(alloc: Global, lines: &[VsnsLine]) -> Result<List<VsnsGroup>, AllocError>
+pub fn groups_of(alloc: Global, lines: &[VsnsLine]) -> Result<List<VsnsGroup>, AllocError>
     ensures { IfOk result (λ groups. AreGroups lines.now groups) }
 {
     let mut groups = List::new(alloc);

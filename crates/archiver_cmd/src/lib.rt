@@ -4,6 +4,7 @@
 mod conf;
 mod levels;
 mod params;
+mod plain;
 mod read;
 #[cfg(test)]
 mod tests;
@@ -14,4 +15,5 @@ pub use archiver_lines::{
 };
 pub use conf::{ArchiverConf, SetConf, VsnsGroup};
 pub use params::{Params, Reserve};
+pub use plain::plain_archiver;
 pub use read::{each_archiver_says_one_thing, read_archiver};

@@ -2,10 +2,11 @@
 
 ghost use Rattle.std.specs.Prelude.{◌≤◌, ℕ, List as Seq, length};
 ghost use Rattle.site_text.specs.Files.{FileAnswers};
+ghost use Rattle.archiver_lines.specs.Lines.{line_of};
 ghost use Rattle.archiver_lines.specs.Says.{LineSays, LineWrong};
 ghost use Rattle.archiver_lines.specs.Told.{open_line};
 ghost use Rattle.archiver_cmd.specs.Conf.{Tells};
-ghost use Rattle.archiver_cmd.specs.OneMeaning.{SaysOneThing};
+ghost use Rattle.site_text.specs.OneMeaning.{SaysOneThing};
 
 use crate::conf::{ArchiverConf, conf_of};
 use archiver_lines::{Known, Reading, read_line};
@@ -79,7 +80,7 @@ pub fn read_archiver(alloc: Global, text: &[u8], fs: &[u8]) -> Result<ArchiverCo
 
 /// Each text says one list of readings as the archiver.cmd of a site with this file system, or has one refusal, and not both.
 pub fn each_archiver_says_one_thing(fs: &[u8])
-    ensures { (text : Seq ℕ) → SaysOneThing (LineSays fs.now) (LineWrong fs.now) open_line text }
+    ensures { (text : Seq ℕ) → SaysOneThing (line_of fs.now) (LineSays fs.now) (LineWrong fs.now) open_line text }
 {
     each_text_says_one_thing::<ArchiverFile>(&ArchiverFile { site: fs })
 }

@@ -17,7 +17,7 @@ use Rattle.archiver_lines.specs.Told.{part_of, assignments_of, sets_of}
 use Rattle.archiver_lines.specs.Says.{AssignSays}
 use Rattle.archiver_lines.proofs.Tests.{bind_ok, unless_said, not_false, both_false, other, is_other, above, is_above}
 
-abbrev line_read : Field → List Reading → ℕ → Field → List Field → Read Reading
+abbrev pub line_read : Field → List Reading → ℕ → Field → List Field → Read Reading
 line_read site before number set fields = assign_line (part_of site before) (length (assignments_of before)) (sets_of before) number set fields
 
 pub assign_read : (site : Field) (before : List Reading) (number : ℕ) (set : Field) (fields : List Field) (said : Reading) → AssignSays site before number set fields said → line_read site before number set fields ≡ Ok said
@@ -43,13 +43,13 @@ next_said (f ∷ fs) x is = let e : paired f fs ≡ x = cc in ap (λ (y : Field 
     paired : Field → List Field → Field × List Field
     paired g gs = (g, gs)
 
-abbrev told : Field → List Reading → ℕ → Field → Field → List Criterion → Reading
+abbrev pub told : Field → List Reading → ℕ → Field → Field → List Criterion → Reading
 told site before number set path given = readings.Assign set (assigned number (set_place (sets_of before) set) (part_of site before) path given)
 
-abbrev given_read : Field → List Reading → ℕ → Field → Field × List Field → Read Reading
+abbrev pub given_read : Field → List Reading → ℕ → Field → Field × List Field → Read Reading
 given_read site before number set path = options_of criteria_table [] path.1 >>= λ given. Ok (told site before number set path.0 given)
 
-abbrev path_read : Field → List Reading → ℕ → Field → List Field → Read Reading
+abbrev pub path_read : Field → List Reading → ℕ → Field → List Field → Read Reading
 path_read site before number set fields = next_field fields >>= λ path. unless (not (is_set_path path.0)) BadValue >>= λ u. given_read site before number set path
 
 abbrev own_read : Field → List Reading → ℕ → Field → List Field → Read Reading

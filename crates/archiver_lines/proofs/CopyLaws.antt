@@ -14,7 +14,8 @@ use Rattle.archiver_lines.specs.declared.reading.CopyConf.{CopyConf}
 use Rattle.archiver_lines.specs.declared.reading.SetCopy.{SetCopy}
 use Rattle.archiver_lines.specs.Names.{set_place, is_too_many}
 use Rattle.archiver_lines.specs.CopyLines.{has_copy, no_second, copy_option, copy_ages, copy_conf, copy_line}
-use Rattle.archiver_lines.specs.Says.{OptionSays, AgesSay, IsPlain, CopySays}
+use Rattle.archiver_lines.specs.Parts.{OptionSays, AgesSay, IsPlain}
+use Rattle.archiver_lines.specs.Says.{CopySays}
 use Rattle.archiver_lines.proofs.Tests.{bind_ok, wanted_said, unless_said, not_false, both_true, is_same, other, is_other, above, is_above}
 
 -- ---- what is said is read
@@ -42,7 +43,7 @@ unfolding no_second
 no_second_there a b [] first second plain = refl
 no_second_there a b (f ∷ fs) first second plain = rw (no_option f a plain first, no_option f b plain second, plain) refl
 
-option_read : (options ages : List Field) (release norelease : Bool) → OptionSays options release norelease → IsPlain ages → copy_option (options ++ ages) ≡ Ok ((release, norelease), ages)
+pub option_read : (options ages : List Field) (release norelease : Bool) → OptionSays options release norelease → IsPlain ages → copy_option (options ++ ages) ≡ Ok ((release, norelease), ages)
 unfolding copy_option
 option_read [] [] false false says plain = refl
 option_read [] (f ∷ fs) false false says plain = rw (no_option f (codes "-release") plain refl, no_option f (codes "-norelease") plain refl, plain) refl
@@ -74,7 +75,7 @@ copy_read target copies sets field fields line s =
 
 -- ---- what is read is said
 
-age_said : (f : Field) (n : ℕ) → age_value f ≡ Ok n → age_of f ≡ Ok n
+pub age_said : (f : Field) (n : ℕ) → age_value f ≡ Ok n → age_of f ≡ Ok n
 age_said f n is = go (age_of f) is
   where
     go : (r : Result ℕ TextRefusal) → bad_value r ≡ Ok n → r ≡ Ok n
@@ -127,7 +128,7 @@ found release norelease fields = ((release, norelease), fields)
 abbrev Found : List Field → (Bool × Bool) × List Field → Type 0
 Found fields x = (options : List Field) × (fields ≡ options ++ x.1) × OptionSays options x.0.0 x.0.1 × IsPlain x.1
 
-option_said : (fields : List Field) (x : (Bool × Bool) × List Field) → copy_option fields ≡ Ok x → Found fields x
+pub option_said : (fields : List Field) (x : (Bool × Bool) × List Field) → copy_option fields ≡ Ok x → Found fields x
 unfolding copy_option
 option_said [] x is = let e : found false false [] ≡ x = cc in subst (Found []) e ([], refl, tt, tt)
 option_said (f ∷ fs) x is = go (bytes_eq f (codes "-release")) (bytes_eq f (codes "-norelease")) (is_option f) refl refl refl is
@@ -166,10 +167,10 @@ conf_said copy fields c is =
     let opt = option_said fields o.0 o.1 in
     (ap (λ (x : CopyConf). x.copy) e, subst (ConfSays fields) e (record { options = opt.0; ages = o.0.1; parts = opt.1; option = opt.2; plain = opt.3; age = ages_said o.0.1 a.0 a.1 }))
 
-abbrev set_copy : Field → CopyConf → SetCopy
+abbrev pub set_copy : Field → CopyConf → SetCopy
 set_copy set conf = record { set = set; conf = conf }
 
-abbrev ending : ℕ → Field → List Field → Read SetCopy
+abbrev pub ending : ℕ → Field → List Field → Read SetCopy
 ending copy set fields = copy_conf copy fields >>= λ conf. Ok (set_copy set conf)
 
 abbrev ranged : ℕ → Field → List Field → Read SetCopy

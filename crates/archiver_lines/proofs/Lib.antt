@@ -3,8 +3,13 @@ pub mod Items
 pub mod PoolTexts
 pub mod LastCriteria
 pub mod Tests
+pub mod Faults
 pub mod CopyLaws
+pub mod CopyFaults
 pub mod NameLaws
+pub mod NameFaults
 pub mod AssignLaws
+pub mod AssignFaults
 pub mod SectionLaws
+pub mod SectionFaults
 pub mod LineLaws

@@ -1,7 +1,8 @@
 -- A line is read as what it says, and says what it is read as; and so with what is wrong with it.
-use Rattle.std.proofs.Common.{◌≡◌, ℕ, List, [], ◌∷◌, Ok, Err, refl, sym, subst, ◌∙◌}
+use Rattle.std.proofs.Common.{◌≡◌, ℕ, List, [], ◌∷◌, Ok, Err, refl, sym, subst}
 use Rattle.site_text.specs.declared.line.Line.{Line}
 use Rattle.site_text.specs.declared.fault.ConfFault.{ConfFault}
+use Rattle.site_text.specs.declared.fault.ConfFault.TheVariants.{UnknownDirective, MissingField}
 use Rattle.site_text.specs.Fields.{Field, Read, ◌>>=◌}
 use Rattle.site_text.specs.Forms.{read_form}
 use Rattle.site_text.proofs.FormLaws.{form_said, form_wrong, form_read, form_refused, directive_said, directive_wrong, directive_read, directive_refused}
@@ -11,18 +12,22 @@ use Rattle.archiver_lines.specs.declared.reading.Reading.{Reading}
 use Rattle.archiver_lines.specs.declared.reading.Reading.TheVariants as readings
 use Rattle.archiver_lines.specs.declared.reading.Section.{Section}
 use Rattle.archiver_lines.specs.declared.reading.Section.TheVariants.{Params, VsnPools, Vsns}
-use Rattle.archiver_lines.specs.declared.reading.PoolLine.{PoolLine}
-use Rattle.archiver_lines.specs.ValueForms.{value_names, no_words}
+use Rattle.archiver_lines.specs.ValueForms.{value_names}
+use Rattle.site_text.specs.Plain.{no_words}
 use Rattle.archiver_lines.specs.Kinds.{kind_of}
 use Rattle.archiver_lines.specs.CopyLines.{copy_line}
 use Rattle.archiver_lines.specs.SectionLines.{pool_form, params_line, vsns_line}
 use Rattle.archiver_lines.specs.Told.{opened_of, file_systems_of, target_of, sets_of, copies_of, params_of, pools_of, room_of}
 use Rattle.archiver_lines.specs.Lines.{copy_reading, assign_reading, params_reading, pool_reading, vsns_reading, within_reading, line_as, line_of}
 use Rattle.archiver_lines.specs.Says.{SaysCopy, SaysAssign, SaysParams, SaysPool, SaysVsns, SaysWithin, SaysAs, LineSays, WrongAs, LineWrong}
+use Rattle.archiver_lines.specs.Wrong.{WrongCopy, WrongAssign, WrongParams, WrongVsns, WrongWithin}
 use Rattle.archiver_lines.proofs.Tests.{bind_ok}
 use Rattle.archiver_lines.proofs.CopyLaws.{copy_read, copy_said}
 use Rattle.archiver_lines.proofs.AssignLaws.{assign_read, assign_said}
 use Rattle.archiver_lines.proofs.SectionLaws.{params_read, params_said, vsns_read, vsns_said}
+use Rattle.archiver_lines.proofs.CopyFaults.{copy_wrong, copy_refused}
+use Rattle.archiver_lines.proofs.AssignFaults.{assign_wrong, assign_refused}
+use Rattle.archiver_lines.proofs.SectionFaults.{params_wrong, params_refused, vsns_wrong, vsns_refused}
 
 -- ---- what is read is said
 
@@ -125,43 +130,85 @@ line_read site before line said says = as_read (kind_of (opened_of before) line.
 
 -- ---- what is wrong
 
-pool_failed : (number : ℕ) (fields : List Field) (fault : ConfFault) → pool_reading number fields ≡ Err fault → read_form (pool_form number) fields ≡ Err fault
-pool_failed number fields fault is = go (read_form (pool_form number) fields) is
-  where
-    go : (read : Read PoolLine) → (read >>= λ line. Ok (readings.Pool line)) ≡ Err fault → read ≡ Err fault
-    go (Ok line) is = absurd cc
-    go (Err f) is = (let e : f ≡ fault = cc in rw e refl)
+-- where the first step alone can fail, it failed
+first_failed : {A : Type 0} (read : Read A) (says : A → Reading) (fault : ConfFault) → (read >>= λ line. Ok (says line)) ≡ Err fault → read ≡ Err fault
+first_failed (Ok line) says fault is = absurd cc
+first_failed (Err first) says fault is = (let e : first ≡ fault = cc in rw e refl)
 
-as_wrong : (kind : LineKind) (site : Field) (before : List Reading) (line : Line) (fault : ConfFault) → line_of site before line ≡ Err fault → line_as kind site before line ≡ Err fault → WrongAs kind site before line fault
-as_wrong kinds.Value site before line fault all is = directive_wrong value_names no_words line.fields fault is
-as_wrong (kinds.Within VsnPools) site before line fault all is = form_wrong (pool_form line.number) line.fields fault (pool_failed line.number line.fields fault is)
-as_wrong (kinds.Within Params) site before line fault all is = all
-as_wrong (kinds.Within Vsns) site before line fault all is = all
-as_wrong kinds.Empty site before line fault all is = all
-as_wrong kinds.NoDirective site before line fault all is = all
-as_wrong kinds.Ends site before line fault all is = all
-as_wrong (kinds.Begins section) site before line fault all is = all
-as_wrong kinds.Copy site before line fault all is = all
-as_wrong kinds.Assignment site before line fault all is = all
+abbrev refused : ConfFault → Read Reading
+refused fault = Err fault
 
-as_one : (site : Field) (before : List Reading) (line : Line) → line_of site before line ≡ line_as (kind_of (opened_of before) line.fields) site before line
-unfolding line_of
-as_one site before line = refl
+fault_is : (first fault : ConfFault) → refused first ≡ refused fault → fault ≡ first
+fault_is first fault is = (let e : first ≡ fault = cc in sym e)
+
+copy_line_wrong : (before : List Reading) (fields : List Field) (fault : ConfFault) → copy_reading before fields ≡ Err fault → WrongCopy before fields fault
+copy_line_wrong before [] fault is = fault_is MissingField fault is
+copy_line_wrong before (f ∷ fs) fault is = copy_wrong (target_of before) (copies_of before) (sets_of before) f fs fault (first_failed (copy_line (target_of before) (copies_of before) (sets_of before) f fs) (λ line. readings.Copy line) fault is)
+
+assign_line_wrong : (site : Field) (before : List Reading) (number : ℕ) (fields : List Field) (fault : ConfFault) → assign_reading site before number fields ≡ Err fault → WrongAssign before fields fault
+assign_line_wrong site before number [] fault is = fault_is MissingField fault is
+assign_line_wrong site before number (f ∷ fs) fault is = assign_wrong site before number f fs fault is
+
+params_line_wrong : (site : Field) (before : List Reading) (fields : List Field) (fault : ConfFault) → params_reading site before fields ≡ Err fault → WrongParams site before fields fault
+params_line_wrong site before [] fault is = fault_is MissingField fault is
+params_line_wrong site before (f ∷ fs) fault is = params_wrong site before f fs fault (first_failed (params_line site (file_systems_of before) (sets_of before) (params_of before) f fs) (λ line. readings.Params line) fault is)
+
+vsns_line_wrong : (site : Field) (before : List Reading) (number : ℕ) (fields : List Field) (fault : ConfFault) → vsns_reading site before number fields ≡ Err fault → WrongVsns site before number fields fault
+vsns_line_wrong site before number [] fault is = fault_is MissingField fault is
+vsns_line_wrong site before number (f ∷ fs) fault is = vsns_wrong site before number f fs fault (first_failed (vsns_line site (file_systems_of before) (sets_of before) (pools_of before) (room_of before) number f fs) (λ line. readings.Vsns line) fault is)
+
+within_wrong : (section : Section) (site : Field) (before : List Reading) (line : Line) (fault : ConfFault) → within_reading section site before line ≡ Err fault → WrongWithin section site before line fault
+within_wrong Params site before line fault is = params_line_wrong site before line.fields fault is
+within_wrong VsnPools site before line fault is = form_wrong (pool_form line.number) line.fields fault (first_failed (read_form (pool_form line.number) line.fields) (λ pool. readings.Pool pool) fault is)
+within_wrong Vsns site before line fault is = vsns_line_wrong site before line.number line.fields fault is
+
+as_wrong : (kind : LineKind) (site : Field) (before : List Reading) (line : Line) (fault : ConfFault) → line_as kind site before line ≡ Err fault → WrongAs kind site before line fault
+as_wrong kinds.Empty site before line fault is = fault_is MissingField fault is
+as_wrong kinds.NoDirective site before line fault is = fault_is UnknownDirective fault is
+as_wrong kinds.Ends site before line fault is = absurd cc
+as_wrong (kinds.Within section) site before line fault is = within_wrong section site before line fault is
+as_wrong kinds.Value site before line fault is = directive_wrong value_names no_words line.fields fault is
+as_wrong (kinds.Begins section) site before line fault is = absurd cc
+as_wrong kinds.Copy site before line fault is = copy_line_wrong before line.fields fault is
+as_wrong kinds.Assignment site before line fault is = assign_line_wrong site before line.number line.fields fault is
 
 pub line_wrong : (site : Field) (before : List Reading) (line : Line) (fault : ConfFault) → line_of site before line ≡ Err fault → LineWrong site before line fault
-line_wrong site before line fault is = as_wrong (kind_of (opened_of before) line.fields) site before line fault is (sym (as_one site before line) ∙ is)
+unfolding line_of
+line_wrong site before line fault is = as_wrong (kind_of (opened_of before) line.fields) site before line fault is
 
-as_refused : (kind : LineKind) (site : Field) (before : List Reading) (line : Line) (fault : ConfFault) → line_of site before line ≡ line_as kind site before line → WrongAs kind site before line fault → line_of site before line ≡ Err fault
-as_refused kinds.Value site before line fault all wrong = all ∙ directive_refused value_names no_words line.fields fault wrong
-as_refused (kinds.Within VsnPools) site before line fault all wrong = all ∙ rw (form_refused (pool_form line.number) line.fields fault wrong) refl
-as_refused (kinds.Within Params) site before line fault all wrong = wrong
-as_refused (kinds.Within Vsns) site before line fault all wrong = wrong
-as_refused kinds.Empty site before line fault all wrong = wrong
-as_refused kinds.NoDirective site before line fault all wrong = wrong
-as_refused kinds.Ends site before line fault all wrong = wrong
-as_refused (kinds.Begins section) site before line fault all wrong = wrong
-as_refused kinds.Copy site before line fault all wrong = wrong
-as_refused kinds.Assignment site before line fault all wrong = wrong
+-- ---- what is wrong is refused
+
+copy_line_refused : (before : List Reading) (fields : List Field) (fault : ConfFault) → WrongCopy before fields fault → copy_reading before fields ≡ Err fault
+copy_line_refused before [] fault is = rw is refl
+copy_line_refused before (f ∷ fs) fault wrong = rw (copy_refused (target_of before) (copies_of before) (sets_of before) f fs fault wrong) refl
+
+assign_line_refused : (site : Field) (before : List Reading) (number : ℕ) (fields : List Field) (fault : ConfFault) → WrongAssign before fields fault → assign_reading site before number fields ≡ Err fault
+assign_line_refused site before number [] fault is = rw is refl
+assign_line_refused site before number (f ∷ fs) fault wrong = assign_refused site before number f fs fault wrong
+
+params_line_refused : (site : Field) (before : List Reading) (fields : List Field) (fault : ConfFault) → WrongParams site before fields fault → params_reading site before fields ≡ Err fault
+params_line_refused site before [] fault is = rw is refl
+params_line_refused site before (f ∷ fs) fault wrong = rw (params_refused site before f fs fault wrong) refl
+
+vsns_line_refused : (site : Field) (before : List Reading) (number : ℕ) (fields : List Field) (fault : ConfFault) → WrongVsns site before number fields fault → vsns_reading site before number fields ≡ Err fault
+vsns_line_refused site before number [] fault is = rw is refl
+vsns_line_refused site before number (f ∷ fs) fault wrong = rw (vsns_refused site before number f fs fault wrong) refl
+
+within_refused : (section : Section) (site : Field) (before : List Reading) (line : Line) (fault : ConfFault) → WrongWithin section site before line fault → within_reading section site before line ≡ Err fault
+within_refused Params site before line fault wrong = params_line_refused site before line.fields fault wrong
+within_refused VsnPools site before line fault wrong = rw (form_refused (pool_form line.number) line.fields fault wrong) refl
+within_refused Vsns site before line fault wrong = vsns_line_refused site before line.number line.fields fault wrong
+
+as_refused : (kind : LineKind) (site : Field) (before : List Reading) (line : Line) (fault : ConfFault) → WrongAs kind site before line fault → line_as kind site before line ≡ Err fault
+as_refused kinds.Empty site before line fault wrong = rw wrong refl
+as_refused kinds.NoDirective site before line fault wrong = rw wrong refl
+as_refused kinds.Ends site before line fault wrong = absurd wrong
+as_refused (kinds.Within section) site before line fault wrong = within_refused section site before line fault wrong
+as_refused kinds.Value site before line fault wrong = directive_refused value_names no_words line.fields fault wrong
+as_refused (kinds.Begins section) site before line fault wrong = absurd wrong
+as_refused kinds.Copy site before line fault wrong = copy_line_refused before line.fields fault wrong
+as_refused kinds.Assignment site before line fault wrong = assign_line_refused site before line.number line.fields fault wrong
 
 pub line_refused : (site : Field) (before : List Reading) (line : Line) (fault : ConfFault) → LineWrong site before line fault → line_of site before line ≡ Err fault
-line_refused site before line fault wrong = as_refused (kind_of (opened_of before) line.fields) site before line fault (as_one site before line) wrong
+unfolding line_of
+line_refused site before line fault wrong = as_refused (kind_of (opened_of before) line.fields) site before line fault wrong

@@ -28,14 +28,14 @@ use Rattle.archiver_lines.proofs.AssignLaws.{next_said}
 
 -- ---- params
 
-abbrev params_read_of : Field → List Reading → Field → List Field → Read ParamsLine
+abbrev pub params_read_of : Field → List Reading → Field → List Field → Read ParamsLine
 params_read_of site before field fields = params_line site (file_systems_of before) (sets_of before) (params_of before) field fields
 
 pub params_read : (site : Field) (before : List Reading) (field : Field) (fields : List Field) (line : ParamsLine) → ParamsSays site before field fields line → params_read_of site before field fields ≡ Ok line
 unfolding params_line
 params_read site before field fields line s = rw (name_read site before field line.name s.name, options_read (params_table (params_of before) line.name) [] fields line.given s.options) refl
 
-abbrev params_told : CopyName → List Given → ParamsLine
+abbrev pub params_told : CopyName → List Given → ParamsLine
 params_told name given = record { name = name; given = given }
 
 pub params_said : (site : Field) (before : List Reading) (field : Field) (fields : List Field) (line : ParamsLine) → params_read_of site before field fields ≡ Ok line → ParamsSays site before field fields line
@@ -89,7 +89,7 @@ items_are pools media line given (f ∷ g ∷ fields) = next_step pools media li
 
 -- ---- vsns
 
-abbrev vsns_read_of : Field → List Reading → ℕ → Field → List Field → Read VsnsLine
+abbrev pub vsns_read_of : Field → List Reading → ℕ → Field → List Field → Read VsnsLine
 vsns_read_of site before number field fields = vsns_line site (file_systems_of before) (sets_of before) (pools_of before) (room_of before) number field fields
 
 items_read : (pools : List PoolLine) (media : Field) (line : ℕ) (fields : List Field) (given : List (List VsnExpr)) (exprs : List VsnExpr) → OptionsSay (item_table pools media line) [] fields given → exprs ≡ all_exprs given
@@ -100,7 +100,7 @@ some_step : (f : Field) (fs : List Field) (b : Bool) → length (f ∷ fs) == 0 
 some_step f fs true is = absurd (omega (arith, eqb-true (length (f ∷ fs)) 0 is))
 some_step f fs false is = is
 
-some_fields : (f : Field) (fs : List Field) → length (f ∷ fs) == 0 ≡ false
+pub some_fields : (f : Field) (fs : List Field) → length (f ∷ fs) == 0 ≡ false
 some_fields f fs = some_step f fs (length (f ∷ fs) == 0) refl
 
 pub vsns_read : (site : Field) (before : List Reading) (number : ℕ) (field : Field) (fields : List Field) (line : VsnsLine) → VsnsSays site before number field fields line → vsns_read_of site before number field fields ≡ Ok line
@@ -117,19 +117,19 @@ items_said : (pools : List PoolLine) (media : Field) (line : ℕ) (fields : List
     → (given : List (List VsnExpr)) × OptionsSay (item_table pools media line) [] fields given × (exprs ≡ all_exprs given)
 items_said pools media line fields exprs is = given_said pools media line fields exprs (options_of (item_table pools media line) [] fields) refl (sym (items_are pools media line [] fields) ∙ is)
 
-abbrev vsns_told : CopyName → List VsnExpr → VsnsLine
+abbrev pub vsns_told : CopyName → List VsnExpr → VsnsLine
 vsns_told name exprs = record { name = name; exprs = exprs }
 
-abbrev fits_read : List Reading → CopyName → List VsnExpr → Read VsnsLine
+abbrev pub fits_read : List Reading → CopyName → List VsnExpr → Read VsnsLine
 fits_read before name exprs = unless (nat_lt (room_of before) (length exprs)) TooMany >>= λ u. Ok (vsns_told name exprs)
 
-abbrev exprs_read : List Reading → ℕ → CopyName → Field × List Field → Read VsnsLine
+abbrev pub exprs_read : List Reading → ℕ → CopyName → Field × List Field → Read VsnsLine
 exprs_read before number name media = items_of (pools_of before) media.0 number [] media.1 >>= λ exprs. fits_read before name exprs
 
-abbrev some_read : List Reading → ℕ → CopyName → Field × List Field → Read VsnsLine
+abbrev pub some_read : List Reading → ℕ → CopyName → Field × List Field → Read VsnsLine
 some_read before number name media = unless (length media.1 == 0) MissingField >>= λ u. exprs_read before number name media
 
-abbrev legal_read : List Reading → ℕ → CopyName → Field × List Field → Read VsnsLine
+abbrev pub legal_read : List Reading → ℕ → CopyName → Field × List Field → Read VsnsLine
 legal_read before number name media = unless (not (is_media media.0)) BadValue >>= λ u. some_read before number name media
 
 abbrev Split : List Field → Type 0

@@ -9,4 +9,6 @@ pub mod Assignments
 pub mod SectionLines
 pub mod Told
 pub mod Lines
+pub mod Parts
+pub mod Wrong
 pub mod Says

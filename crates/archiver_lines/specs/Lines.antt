@@ -12,7 +12,8 @@ use Rattle.archiver_lines.specs.declared.reading.Reading.TheVariants as readings
 use Rattle.archiver_lines.specs.declared.reading.Section.{Section}
 use Rattle.archiver_lines.specs.declared.reading.Section.TheVariants.{Params, VsnPools, Vsns}
 use Rattle.archiver_lines.specs.Kinds.{kind_of}
-use Rattle.archiver_lines.specs.ValueForms.{value_names, no_words}
+use Rattle.archiver_lines.specs.ValueForms.{value_names}
+use Rattle.site_text.specs.Plain.{no_words}
 use Rattle.archiver_lines.specs.CopyLines.{copy_line}
 use Rattle.archiver_lines.specs.Assignments.{assign_line}
 use Rattle.archiver_lines.specs.SectionLines.{params_line, pool_form, vsns_line}

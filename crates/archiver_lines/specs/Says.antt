@@ -1,21 +1,19 @@
 -- What lines look like that say something, apart from any order of reading.
-use Rattle.std.specs.Prelude.{◌≡◌, ℕ, ◌≤◌, ◌<◌, List, [], ◌∷◌, ◌++◌, codes, length, Option, Some, None, Ok, Err, Bool, true, false}
+use Rattle.std.specs.Prelude.{◌≡◌, ℕ, ◌≤◌, ◌<◌, List, [], ◌∷◌, ◌++◌, codes, length, Option, Some, true, false}
 use Rattle.site_text.specs.declared.line.Line.{Line}
 use Rattle.site_text.specs.declared.fault.ConfFault.{ConfFault}
+use Rattle.site_text.specs.declared.fault.ConfFault.TheVariants.{UnknownDirective, MissingField}
 use Rattle.site_text.specs.Fields.{Field}
-use Rattle.site_text.specs.Numbers.{number_in, number_within}
-use Rattle.site_text.specs.Ages.{age_of}
-use Rattle.site_text.specs.Values.{is_name, is_media}
-use Rattle.site_text.specs.Words.{is_option}
+use Rattle.site_text.specs.Numbers.{number_in}
+use Rattle.site_text.specs.Values.{is_media}
 use Rattle.site_text.specs.Options.{OptionsSay}
-use Rattle.site_text.specs.Forms.{FormSays, FormWrong}
+use Rattle.site_text.specs.Forms.{FormSays}
+use Rattle.site_text.specs.Plain.{no_words}
 use Rattle.site_text.specs.Directives.{DirectiveSays, DirectiveWrong}
 use Rattle.archiver_lines.specs.declared.criteria.Criterion.{Criterion}
 use Rattle.archiver_lines.specs.declared.kinds.LineKind.{LineKind}
 use Rattle.archiver_lines.specs.declared.kinds.LineKind.TheVariants as kinds
 use Rattle.archiver_lines.specs.declared.reading.SetCopy.{SetCopy}
-use Rattle.archiver_lines.specs.declared.reading.CopyName.{CopyName}
-use Rattle.archiver_lines.specs.declared.reading.CopyName.TheVariants as names
 use Rattle.archiver_lines.specs.declared.reading.ParamsLine.{ParamsLine}
 use Rattle.archiver_lines.specs.declared.reading.VsnExpr.{VsnExpr}
 use Rattle.archiver_lines.specs.declared.reading.VsnsLine.{VsnsLine}
@@ -23,38 +21,20 @@ use Rattle.archiver_lines.specs.declared.reading.Reading.{Reading}
 use Rattle.archiver_lines.specs.declared.reading.Reading.TheVariants as readings
 use Rattle.archiver_lines.specs.declared.reading.Section.{Section}
 use Rattle.archiver_lines.specs.declared.reading.Section.TheVariants.{Params, VsnPools, Vsns}
-use Rattle.archiver_lines.specs.Names.{is_set_name, is_known, set_place, around_last_dot}
+use Rattle.archiver_lines.specs.Names.{is_set_name, set_place}
 use Rattle.archiver_lines.specs.Paths.{is_set_path}
 use Rattle.archiver_lines.specs.Criteria.{criteria_table}
 use Rattle.archiver_lines.specs.ParamOptions.{params_table}
 use Rattle.archiver_lines.specs.CopyLines.{has_copy}
 use Rattle.archiver_lines.specs.Assignments.{assigned}
 use Rattle.archiver_lines.specs.SectionLines.{pool_form, item_table, all_exprs}
-use Rattle.archiver_lines.specs.ValueForms.{value_names, no_words}
+use Rattle.archiver_lines.specs.ValueForms.{value_names}
 use Rattle.archiver_lines.specs.Kinds.{kind_of}
-use Rattle.archiver_lines.specs.Told.{opened_of, part_of, file_systems_of, target_of, assignments_of, sets_of, copies_of, params_of, pools_of, room_of}
-use Rattle.archiver_lines.specs.Lines.{line_of}
+use Rattle.archiver_lines.specs.Told.{opened_of, part_of, target_of, assignments_of, sets_of, copies_of, params_of, pools_of, room_of}
+use Rattle.archiver_lines.specs.Parts.{OptionSays, AgesSay, IsPlain, NameSays}
+use Rattle.archiver_lines.specs.Wrong.{WrongCopy, WrongAssign, WrongWithin}
 
 -- ---- copy lines
-
--- at most one of `-release` and `-norelease`
-abbrev pub OptionSays : List Field → Bool → Bool → Type 0
-OptionSays [] false false = Unit {0}
-OptionSays (field ∷ []) true false = field ≡ codes "-release"
-OptionSays (field ∷ []) false true = field ≡ codes "-norelease"
-OptionSays fields release norelease = ⊥
-
--- at most two ages; the copy is made at 240 seconds where there is none
-abbrev pub AgesSay : List Field → ℕ → Option ℕ → Type 0
-AgesSay [] age None = age ≡ 240
-AgesSay (field ∷ []) age None = age_of field ≡ Ok age
-AgesSay (field ∷ next ∷ []) age (Some unage) = (age_of field ≡ Ok age) × (age_of next ≡ Ok unage)
-AgesSay fields age unage = ⊥
-
--- no option stands first
-abbrev pub IsPlain : List Field → Type 0
-IsPlain [] = Unit {0}
-IsPlain (field ∷ fields) = is_option field ≡ false
 
 -- The first field is the number of a copy that the set has not; then come at most one option and at most two ages.
 pub record CopySays (target : Option Field) (copies : List SetCopy) (sets : List Field) (field : Field) (fields : List Field) (line : SetCopy) : Type 0 where
@@ -87,17 +67,6 @@ pub record AssignSays (site : Field) (before : List Reading) (number : ℕ) (set
   pub given : List Criterion
   pub criteria : OptionsSay criteria_table [] rest given
   pub is : said ≡ readings.Assign set (assigned number (set_place (sets_of before) set) (part_of site before) path given)
-
--- ---- names of copies
-
--- The field is `allsets`, `allsets.N` or `SET.N`, cut at its last `.`, and there is such a set.
-abbrev pub NameSays : Field → List Reading → Field → CopyName → Type 0
-NameSays site before field names.AllSets = field ≡ codes "allsets"
-NameSays site before field (names.AllSetsCopy copy) = ¬ (field ≡ codes "allsets") × ((number : Field)
-    × (around_last_dot field ≡ Some (codes "allsets", number)) × (number_within 9 1 4 number ≡ Some copy))
-NameSays site before field (names.SetCopy set copy) = ¬ (field ≡ codes "allsets") × ¬ (set ≡ codes "allsets") × ((number : Field)
-    × (around_last_dot field ≡ Some (set, number)) × (number_within 9 1 4 number ≡ Some copy)
-    × (is_name 32 set ≡ true) × (is_known site (file_systems_of before) (sets_of before) set ≡ true))
 
 -- ---- lines of sections
 
@@ -162,12 +131,19 @@ SaysAs kinds.Assignment site before line said = SaysAssign site before line.numb
 abbrev pub LineSays : Field → List Reading → Line → Reading → Type 0
 LineSays site before line said = SaysAs (kind_of (opened_of before) line.fields) site before line said
 
--- This is wrong with a line of this kind: with a value line or a pool line the first field that is not of its form, with another
--- the fault of the first test that it fails, from the left.
-abbrev pub WrongAs : LineKind → Field → List Reading → Line → ConfFault → Type 0
-WrongAs kinds.Value site before line fault = DirectiveWrong value_names no_words line.fields fault
-WrongAs (kinds.Within VsnPools) site before line fault = FormWrong (pool_form line.number) line.fields fault
-WrongAs kind site before line fault = line_of site before line ≡ Err fault
+-- ---- what is wrong
 
+-- what is wrong with a line of this kind
+abbrev pub WrongAs : LineKind → Field → List Reading → Line → ConfFault → Type 0
+WrongAs kinds.Empty site before line fault = fault ≡ MissingField
+WrongAs kinds.NoDirective site before line fault = fault ≡ UnknownDirective
+WrongAs kinds.Ends site before line fault = ⊥
+WrongAs (kinds.Within section) site before line fault = WrongWithin section site before line fault
+WrongAs kinds.Value site before line fault = DirectiveWrong value_names no_words line.fields fault
+WrongAs (kinds.Begins section) site before line fault = ⊥
+WrongAs kinds.Copy site before line fault = WrongCopy before line.fields fault
+WrongAs kinds.Assignment site before line fault = WrongAssign before line.fields fault
+
+-- This is wrong with the line, after lines that said those before it: with the first field that is wrong.
 abbrev pub LineWrong : Field → List Reading → Line → ConfFault → Type 0
 LineWrong site before line fault = WrongAs (kind_of (opened_of before) line.fields) site before line fault

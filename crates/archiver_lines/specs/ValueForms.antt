@@ -42,6 +42,3 @@ form_of Ignored = ignored_form readings.Nothing
 
 abbrev pub value_names : FormTable Value Reading
 value_names name = option_map form_of (named directives name)
-
-abbrev pub no_words : FormTable Value Reading
-no_words word = None

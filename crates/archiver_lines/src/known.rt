@@ -12,7 +12,7 @@ use site_text::{Bytes, List};
 use std::alloc::{AllocError, Global};
 
 /// The limit on the number of expressions for volumes, with pools put in.
-const MOST_EXPRS: usize = 256;
+pub const MOST_EXPRS: usize = 256;
 
 /// What the lines so far told.
 #[derive(Debug, Drop)]
@@ -49,7 +49,7 @@ pub fn mention(sets: &mut List<Bytes>, name: &Bytes) -> Result<(), AllocError>
 }
 
 /// The part of a file system.
-fn part_named(site: &[u8], name: &[u8]) -> Local
+pub fn part_named(site: &[u8], name: &[u8]) -> Local
     ensures { result ≡ part_named site.now name.now }
 {
     if name == site {

@@ -5,7 +5,8 @@ ghost use Rattle.site_text.specs.Fields.{Gives};
 ghost use Rattle.site_text.specs.Words.{named};
 ghost use Rattle.site_text.specs.Forms.{read_form};
 ghost use Rattle.site_text.specs.Directives.{read_directive};
-ghost use Rattle.archiver_lines.specs.ValueForms.{directives, form_of, value_names, no_words};
+ghost use Rattle.archiver_lines.specs.ValueForms.{directives, form_of, value_names};
+ghost use Rattle.site_text.specs.Plain.{no_words};
 ghost use Rattle.archiver_lines.specs.declared.value_lines.Directive.TheVariants as directive;
 
 use crate::reading::Reading;

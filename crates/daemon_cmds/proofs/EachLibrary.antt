@@ -5,7 +5,7 @@ use Rattle.std.proofs.lemmas.List.{length-map, length-set}
 use Rattle.site_text.specs.declared.fault.ConfError.{ConfError}
 use Rattle.site_text.specs.declared.fault.ConfError.TheVariants.{Refused, NoMemory}
 use Rattle.site_text.specs.Files.{FileAnswers}
-use Rattle.daemon_cmds.specs.Plain.{no_section}
+use Rattle.site_text.specs.Plain.{no_section}
 use Rattle.daemon_cmds.specs.declared.site_conf.SiteConf.{SiteConf}
 use Rattle.daemon_cmds.specs.declared.stager_conf.StagerConf.{StagerConf}
 use Rattle.daemon_cmds.specs.declared.stager_conf.StagerReading.{StagerReading}
@@ -26,9 +26,12 @@ drives_counted site (stager.MaxActive n ∷ before) = drives_counted site before
 drives_counted site (stager.CopySel copies ∷ before) = drives_counted site before
 drives_counted site (stager.Nothing ∷ before) = drives_counted site before
 
+pub told_drives : (site : SiteConf) (said : List StagerReading) (conf : StagerConf) → TellsStager site said conf → length conf.drives ≡ length site.libraries
+told_drives site said conf tells = ap length tells.drives ∙ drives_counted site said
+
 pub each_has_drives : (site : SiteConf) (text : List ℕ) (result : Result StagerConf ConfError) → FileAnswers (StagerLineSays site) (StagerLineWrong site) no_section (TellsStager site) text result
     → IfOk result (λ conf. length conf.drives ≡ length site.libraries)
-each_has_drives site text (Ok conf) (said, says, tells) = ap length tells.drives ∙ drives_counted site said
+each_has_drives site text (Ok conf) (said, says, tells) = told_drives site said conf tells
 each_has_drives site text (Err (Refused refusal)) answers = tt
 each_has_drives site text (Err NoMemory) answers = tt
 
@@ -44,8 +47,11 @@ recycling_counted site (recycler.Library place options ∷ before) =
 recycling_counted site (recycler.NoRecycle volumes ∷ before) = recycling_counted site before
 recycling_counted site (recycler.Nothing ∷ before) = recycling_counted site before
 
+pub told_libraries : (site : SiteConf) (said : List RecyclerReading) (conf : RecyclerConf) → TellsRecycler site said conf → length conf.libraries ≡ length site.libraries
+told_libraries site said conf tells = ap length tells.libraries ∙ recycling_counted site said
+
 pub each_is_recycled : (site : SiteConf) (text : List ℕ) (result : Result RecyclerConf ConfError) → FileAnswers (RecyclerLineSays site) (RecyclerLineWrong site) no_section (TellsRecycler site) text result
     → IfOk result (λ conf. length conf.libraries ≡ length site.libraries)
-each_is_recycled site text (Ok conf) (said, says, tells) = ap length tells.libraries ∙ recycling_counted site said
+each_is_recycled site text (Ok conf) (said, says, tells) = told_libraries site said conf tells
 each_is_recycled site text (Err (Refused refusal)) answers = tt
 each_is_recycled site text (Err NoMemory) answers = tt

@@ -1,6 +1,6 @@
 -- The library of each volume is one of the site's.
 use Rattle.std.proofs.Common.{◌≡◌, ℕ, zero, suc, ◌<◌, Bool, true, false, List, [], ◌∷◌, ◌++◌, length, Option, Some, None, Ok, Err, refl, subst, arith}
-use Rattle.std.specs.Prelude.{option_map, if◌then◌else◌, ◌==◌}
+use Rattle.std.specs.Prelude.{reverse, option_map, if◌then◌else◌, ◌==◌}
 use Rattle.std.specs.List.{All}
 use Rattle.std.specs.Str.{bytes_eq}
 use Rattle.std.proofs.lemmas.List.Elements.{All-append}
@@ -16,7 +16,7 @@ use Rattle.site_text.specs.Words.{named}
 use Rattle.site_text.specs.Directives.{form_at, read_directive}
 use Rattle.site_text.specs.Files.{FileSays, LinesSay}
 use Rattle.site_text.proofs.FormLaws.{directive_read}
-use Rattle.daemon_cmds.specs.Plain.{no_section, no_words}
+use Rattle.site_text.specs.Plain.{no_section, no_words}
 use Rattle.daemon_cmds.specs.declared.site_conf.Library.{Library}
 use Rattle.daemon_cmds.specs.declared.site_conf.Volume.{Volume}
 use Rattle.daemon_cmds.specs.declared.site_conf.SiteConf.{SiteConf}
@@ -135,3 +135,10 @@ pub each_volume_has_its_library : (text : List ℕ) (known : SiteSoFar) (site : 
 each_volume_has_its_library text known site (said, says, knows) tells =
     let told = tells said knows in
     rw (told.libraries, told.volumes) (all_placed said _ says.lines_say)
+
+-- the same of a site that a list of readings tells, the latest last
+pub each_told_volume_has_its_library : (text : List ℕ) (known readings : List SiteReading) (site : SiteConf)
+    → ((said : List SiteReading) × FileSays SiteLineSays no_section text said × (said ≡ reverse known)) → readings ≡ known → TellsSite (reverse readings) site
+    → All (λ v. v.library < length site.libraries) site.volumes
+each_told_volume_has_its_library text known readings site (said, says, is) same told =
+    rw (told.libraries, told.volumes, same, ← is) (all_placed said _ says.lines_say)

@@ -4,3 +4,4 @@ mod NoRecycleLines
 mod EachLibrary
 mod KnownLibraries
 mod LastSettings
+pub mod CacheRange

@@ -1,5 +1,3 @@
-pub mod Plain
-pub mod OneMeaning
 pub mod Barred
 pub mod BarredLaws
 pub mod SiteLines
@@ -11,3 +9,4 @@ pub mod ReleaserTold
 pub mod RecyclerLines
 pub mod RecyclerLaws
 pub mod RecyclerTold
+pub mod WeightKinds

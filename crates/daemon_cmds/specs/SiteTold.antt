@@ -11,7 +11,7 @@ use Rattle.daemon_cmds.specs.declared.site_conf.SiteReading.{SiteReading}
 use Rattle.daemon_cmds.specs.declared.site_conf.SiteReading.TheVariants as readings
 use Rattle.daemon_cmds.specs.Barred.{MayStandAndSays, BarredOrWrong, read_unless_barred}
 use Rattle.daemon_cmds.specs.SiteLines.{site_bars, site_names}
-use Rattle.daemon_cmds.specs.Plain.{no_words}
+use Rattle.site_text.specs.Plain.{no_words}
 
 abbrev pub name_of : List SiteReading → Option Field
 name_of [] = None

@@ -9,7 +9,7 @@ use Rattle.daemon_cmds.specs.declared.stager_conf.StagerConf.{StagerConf}
 use Rattle.daemon_cmds.specs.declared.stager_conf.StagerReading.{StagerReading}
 use Rattle.daemon_cmds.specs.declared.stager_conf.StagerReading.TheVariants as readings
 use Rattle.daemon_cmds.specs.StagerLines.{stager_names}
-use Rattle.daemon_cmds.specs.Plain.{no_words}
+use Rattle.site_text.specs.Plain.{no_words}
 
 -- ---- lines, in a site
 

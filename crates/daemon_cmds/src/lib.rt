@@ -1,6 +1,7 @@
 //! The command files of a site beside the archiver's: site.conf, stager.cmd, releaser.cmd and recycler.cmd.
 #![tactic(auto)]
 
+mod plain;
 mod recycler;
 mod recycler_conf;
 mod recycler_lines;
@@ -16,6 +17,7 @@ mod stager_lines;
 #[cfg(test)]
 mod tests;
 
+pub use plain::{plain_recycler, plain_releaser, plain_site, plain_stager};
 pub use recycler::{each_recycler_says_one_thing, read_recycler};
 pub use recycler_conf::{LibraryRecycling, NoRecycle, RecyclerConf};
 pub use releaser::{each_releaser_says_one_thing, read_releaser};

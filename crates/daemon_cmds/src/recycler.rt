@@ -2,9 +2,9 @@
 
 ghost use Rattle.std.specs.Prelude.{◌≡◌, ◌≤◌, ℕ, List as Seq, length, map, IfOk};
 ghost use Rattle.site_text.specs.Files.{FileAnswers};
-ghost use Rattle.daemon_cmds.specs.OneMeaning.{SaysOneThing};
-ghost use Rattle.daemon_cmds.specs.Plain.{no_section};
-ghost use Rattle.daemon_cmds.specs.RecyclerTold.{RecyclerLineSays, RecyclerLineWrong, TellsRecycler, usual_recycling, with_option, with_options};
+ghost use Rattle.site_text.specs.OneMeaning.{SaysOneThing};
+ghost use Rattle.site_text.specs.Plain.{no_section};
+ghost use Rattle.daemon_cmds.specs.RecyclerTold.{recycler_line, RecyclerLineSays, RecyclerLineWrong, TellsRecycler, usual_recycling, with_option, with_options};
 
 use crate::recycler_conf::{LibraryRecycling, RecycleOption, RecyclerConf, RecyclerReading};
 use crate::recycler_lines::read_recycler_line;
@@ -69,7 +69,7 @@ struct RecyclerFile<'a> {
 }
 
 impl CommandFile for RecyclerFile<'_> {
-    ghost use Rattle.daemon_cmds.specs.Plain.{no_section};
+    ghost use Rattle.site_text.specs.Plain.{no_section};
     ghost use Rattle.daemon_cmds.specs.RecyclerTold.{recycler_line, RecyclerLineSays, RecyclerLineWrong, TellsRecycler};
     ghost use Rattle.daemon_cmds.specs.RecyclerLaws.{recycler_said, recycler_wrong, recycler_read, recycler_refused};
 
@@ -139,7 +139,7 @@ pub fn read_recycler(alloc: Global, text: &[u8], site: &SiteConf) -> Result<Recy
 
 /// Each text says one list of readings of recycler.cmd in this site, or has one refusal, and not both.
 pub fn each_recycler_says_one_thing(site: &SiteConf)
-    ensures { (text : Seq ℕ) → SaysOneThing (RecyclerLineSays site.now) (RecyclerLineWrong site.now) no_section text }
+    ensures { (text : Seq ℕ) → SaysOneThing (recycler_line site.now) (RecyclerLineSays site.now) (RecyclerLineWrong site.now) no_section text }
 {
     each_text_says_one_thing::<RecyclerFile>(&RecyclerFile { site })
 }

@@ -102,7 +102,7 @@ fn is_logfile(name: &[u8]) -> bool
 }
 
 /// Copies of these fields.
-fn copies_of(alloc: Global, fields: &[Bytes]) -> Result<List<Bytes>, AllocError>
+pub fn copies_of(alloc: Global, fields: &[Bytes]) -> Result<List<Bytes>, AllocError>
     ensures { IfOk result (λ copies. copies ≡ fields.now) }
 {
     let mut copies = List::new(alloc);

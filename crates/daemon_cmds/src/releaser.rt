@@ -2,10 +2,10 @@
 
 ghost use Rattle.std.specs.Prelude.{◌≡◌, ◌≤◌, ℕ, length, List as Seq, IfOk, Some, None};
 ghost use Rattle.site_text.specs.Files.{FileAnswers};
-ghost use Rattle.daemon_cmds.specs.OneMeaning.{SaysOneThing};
-ghost use Rattle.daemon_cmds.specs.Plain.{no_section};
+ghost use Rattle.site_text.specs.OneMeaning.{SaysOneThing};
+ghost use Rattle.site_text.specs.Plain.{no_section};
 ghost use Rattle.daemon_cmds.specs.ReleaserLines.{same_part};
-ghost use Rattle.daemon_cmds.specs.ReleaserTold.{ReleaserLineSays, ReleaserLineWrong, KnowsReleaser, TellsReleaser, ComesTo, nothing_set, with_setting, weight_or_one, has_separate, separate_hold, age_weights};
+ghost use Rattle.daemon_cmds.specs.ReleaserTold.{releaser_line, ReleaserLineSays, ReleaserLineWrong, KnowsReleaser, TellsReleaser, ComesTo, nothing_set, with_setting, weight_or_one, has_separate, separate_hold, age_weights};
 
 use crate::releaser_conf::{
     AgeWeights, PartSetting, ReleaserConf, ReleaserReading, ReleaserSoFar, Setting, Settings,
@@ -81,7 +81,7 @@ struct ReleaserFile<'a> {
 }
 
 impl CommandFile for ReleaserFile<'_> {
-    ghost use Rattle.daemon_cmds.specs.Plain.{no_section};
+    ghost use Rattle.site_text.specs.Plain.{no_section};
     ghost use Rattle.daemon_cmds.specs.ReleaserTold.{releaser_line, ReleaserLineSays, ReleaserLineWrong, KnowsReleaser, part_of, given_of};
     ghost use Rattle.daemon_cmds.specs.ReleaserLines.{releaser_bars, releaser_names, releaser_bare};
     ghost use Rattle.daemon_cmds.specs.BarredLaws.{barred_said, barred_wrong, barred_read, barred_refused};
@@ -179,7 +179,7 @@ fn age_weights(local: &Settings, global: &Settings) -> AgeWeights
 }
 
 /// What the settings of the site's file system and those for all files come to.
-fn conf_of(local: &Settings, global: &Settings) -> ReleaserConf
+pub fn conf_of(local: &Settings, global: &Settings) -> ReleaserConf
     ensures { ComesTo local.now global.now result }
 {
     ReleaserConf {
@@ -208,7 +208,7 @@ pub fn read_releaser(alloc: Global, text: &[u8], site: &SiteConf) -> Result<Rele
 
 /// Each text says one list of readings of releaser.cmd in this site, or has one refusal, and not both.
 pub fn each_releaser_says_one_thing(site: &SiteConf)
-    ensures { (text : Seq ℕ) → SaysOneThing ReleaserLineSays ReleaserLineWrong no_section text }
+    ensures { (text : Seq ℕ) → SaysOneThing releaser_line ReleaserLineSays ReleaserLineWrong no_section text }
 {
     each_text_says_one_thing::<ReleaserFile>(&ReleaserFile { site })
 }

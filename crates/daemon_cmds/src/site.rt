@@ -3,10 +3,10 @@
 ghost use Rattle.std.specs.List.{All};
 ghost use Rattle.std.specs.Prelude.{◌≡◌, ◌≤◌, ◌<◌, ℕ, length, List as Seq, OnOk, IfOk, codes, unwrap_or};
 ghost use Rattle.site_text.specs.Files.{FileAnswers};
-ghost use Rattle.daemon_cmds.specs.OneMeaning.{SaysOneThing};
-ghost use Rattle.daemon_cmds.specs.Plain.{no_section};
+ghost use Rattle.site_text.specs.OneMeaning.{SaysOneThing};
+ghost use Rattle.site_text.specs.Plain.{no_section};
 ghost use Rattle.daemon_cmds.specs.declared.site_conf.SiteReading.{SiteReading};
-ghost use Rattle.daemon_cmds.specs.SiteTold.{SiteLineSays, SiteLineWrong, KnowsSite, TellsSite};
+ghost use Rattle.daemon_cmds.specs.SiteTold.{site_line, SiteLineSays, SiteLineWrong, KnowsSite, TellsSite};
 
 use crate::site_conf::{SiteConf, SiteReading, SiteSoFar};
 use crate::site_lines::read_site_line;
@@ -19,7 +19,7 @@ use std::alloc::{AllocError, Global};
 struct SiteFile;
 
 impl CommandFile for SiteFile {
-    ghost use Rattle.daemon_cmds.specs.Plain.{no_section, no_words};
+    ghost use Rattle.site_text.specs.Plain.{no_section, no_words};
     ghost use Rattle.daemon_cmds.specs.SiteTold.{site_line, site_so_far, SiteLineSays, SiteLineWrong, KnowsSite};
     ghost use Rattle.daemon_cmds.specs.SiteLines.{site_bars, site_names};
     ghost use Rattle.daemon_cmds.specs.BarredLaws.{barred_said, barred_wrong, barred_read, barred_refused};
@@ -126,7 +126,7 @@ pub fn read_site(alloc: Global, text: &[u8]) -> Result<SiteConf, ConfError>
 
 /// Each text says one list of readings of site.conf, or has one refusal, and not both.
 pub fn each_site_says_one_thing()
-    ensures { (text : Seq ℕ) → SaysOneThing SiteLineSays SiteLineWrong no_section text }
+    ensures { (text : Seq ℕ) → SaysOneThing site_line SiteLineSays SiteLineWrong no_section text }
 {
     each_text_says_one_thing::<SiteFile>(&SiteFile)
 }

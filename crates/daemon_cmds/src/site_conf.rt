@@ -1,6 +1,9 @@
 //! What site.conf says.
 
+ghost use Rattle.std.specs.Prelude.{◌≡◌, IfOk};
+
 use site_text::{Bytes, List};
+use std::alloc::AllocError;
 
 /// A library of the site.
 #[derive(Drop)]
@@ -9,6 +12,18 @@ pub struct Library {
     pub name: Bytes,
     /// How many drives it has, 1 to 64.
     pub drives: u32,
+}
+
+impl Library {
+    /// A copy.
+    pub fn copy(&self) -> Result<Library, AllocError>
+        ensures { IfOk result (λ copy. copy ≡ self.now) }
+    {
+        Ok(Library {
+            name: self.name.copy()?,
+            drives: self.drives,
+        })
+    }
 }
 
 /// A volume of the site.
@@ -22,6 +37,20 @@ pub struct Volume {
     pub vsn: Bytes,
     /// How many bytes it holds: 512 to 2^45, a multiple of 512.
     pub capacity: u64,
+}
+
+impl Volume {
+    /// A copy.
+    pub fn copy(&self) -> Result<Volume, AllocError>
+        ensures { IfOk result (λ copy. copy ≡ self.now) }
+    {
+        Ok(Volume {
+            library: self.library,
+            media: self.media.copy()?,
+            vsn: self.vsn.copy()?,
+            capacity: self.capacity,
+        })
+    }
 }
 
 /// The site: its file system, its cache, and what its files are archived on.

@@ -9,7 +9,7 @@ ghost use Rattle.site_text.specs.Forms.{read_form};
 ghost use Rattle.site_text.specs.Directives.{read_directive};
 ghost use Rattle.site_text.specs.Kinds.{name_field};
 ghost use Rattle.daemon_cmds.specs.Barred.{barred, read_unless_barred};
-ghost use Rattle.daemon_cmds.specs.Plain.{no_words};
+ghost use Rattle.site_text.specs.Plain.{no_words};
 ghost use Rattle.daemon_cmds.specs.SiteLines.{site_directives, library_place, new_library, known_library, new_vsn, low_above, above_high, high_value, low_value, site_form, site_names, site_bar, site_bars};
 ghost use Rattle.daemon_cmds.specs.declared.site_lines.SiteDirective.TheVariants as directives;
 

@@ -2,9 +2,9 @@
 
 ghost use Rattle.std.specs.Prelude.{◌≡◌, ◌∷◌, [], ◌≤◌, ℕ, List as Seq, length, map, IfOk};
 ghost use Rattle.site_text.specs.Files.{FileAnswers};
-ghost use Rattle.daemon_cmds.specs.OneMeaning.{SaysOneThing};
-ghost use Rattle.daemon_cmds.specs.Plain.{no_section};
-ghost use Rattle.daemon_cmds.specs.StagerTold.{StagerLineSays, StagerLineWrong, TellsStager};
+ghost use Rattle.site_text.specs.OneMeaning.{SaysOneThing};
+ghost use Rattle.site_text.specs.Plain.{no_section};
+ghost use Rattle.daemon_cmds.specs.StagerTold.{stager_line, StagerLineSays, StagerLineWrong, TellsStager};
 
 use crate::site_conf::{Library, SiteConf};
 use crate::stager_conf::{StagerConf, StagerReading};
@@ -42,7 +42,7 @@ struct StagerFile<'a> {
 }
 
 impl CommandFile for StagerFile<'_> {
-    ghost use Rattle.daemon_cmds.specs.Plain.{no_section, no_words};
+    ghost use Rattle.site_text.specs.Plain.{no_section, no_words};
     ghost use Rattle.daemon_cmds.specs.StagerTold.{stager_line, StagerLineSays, StagerLineWrong, TellsStager};
     ghost use Rattle.daemon_cmds.specs.StagerLines.{stager_names};
     ghost use Rattle.site_text.proofs.FormLaws.{directive_said, directive_wrong, directive_read, directive_refused};
@@ -117,7 +117,7 @@ pub fn read_stager(alloc: Global, text: &[u8], site: &SiteConf) -> Result<Stager
 
 /// Each text says one list of readings of stager.cmd in this site, or has one refusal, and not both.
 pub fn each_stager_says_one_thing(site: &SiteConf)
-    ensures { (text : Seq ℕ) → SaysOneThing (StagerLineSays site.now) (StagerLineWrong site.now) no_section text }
+    ensures { (text : Seq ℕ) → SaysOneThing (stager_line site.now) (StagerLineSays site.now) (StagerLineWrong site.now) no_section text }
 {
     each_text_says_one_thing::<StagerFile>(&StagerFile { site })
 }

@@ -5,7 +5,7 @@ ghost use Rattle.site_text.specs.Fields.{Gives};
 ghost use Rattle.site_text.specs.Words.{named};
 ghost use Rattle.site_text.specs.Forms.{read_form};
 ghost use Rattle.site_text.specs.Directives.{read_directive};
-ghost use Rattle.daemon_cmds.specs.Plain.{no_words};
+ghost use Rattle.site_text.specs.Plain.{no_words};
 ghost use Rattle.daemon_cmds.specs.StagerLines.{stager_directives, library_value, is_colon, copy_number, copy_numbers, at_most_once, none_twice, with_copy, completed, copysel_value, stager_form, stager_names};
 ghost use Rattle.daemon_cmds.specs.declared.stager_lines.StagerDirective.TheVariants as directives;
 

@@ -1,6 +1,7 @@
 -- The text of each answer: its lines, each a row of words.
 use Rattle.std.specs.Prelude.{ℕ, List, [], ◌∷◌, ◌++◌, codes, decimal, map, length, take, Bool, if◌then◌else◌}
 use Rattle.std.specs.List.{join_with_byte, flat_map}
+use Rattle.site_text.specs.Faults.{fault_text}
 use Rattle.records.specs.declared.event.Daemon.{Daemon}
 use Rattle.records.specs.declared.event.Daemon.TheVariants.{Archiver as ArchiverDaemon, Stager as StagerDaemon, Releaser as ReleaserDaemon, Recycler as RecyclerDaemon}
 use Rattle.records.specs.declared.reply.Vsn.{Vsn}
@@ -20,7 +21,7 @@ use Rattle.records.specs.declared.reply.SetRow.{SetRow}
 use Rattle.records.specs.declared.reply.QueueRow.{QueueRow}
 use Rattle.records.specs.declared.reply.SummaryRow.{SummaryRow}
 use Rattle.records.specs.declared.reply.Reply.{Reply}
-use Rattle.records.specs.declared.reply.Reply.TheVariants.{Stored, Done, At, Bytes, Staging, Started, Moved, Made, Dropped, Unarchived, Wanted, Released, Staged, StageFailed, Damaged, Marked, Relabelled, Settled, Idle, Files, Volumes, Sets, Queue, Summary, Refused, Claimed, PatternRefused, JournalFull, Line, BankFault, FolderFault, BadJournal, NoMemory}
+use Rattle.records.specs.declared.reply.Reply.TheVariants.{Stored, Done, At, Bytes, Staging, Started, Moved, Made, Dropped, Unarchived, Wanted, Released, Staged, StageFailed, Damaged, Marked, Relabelled, Settled, Idle, Files, Volumes, Sets, Queue, Summary, Refused, Claimed, ConfRefused, PatternRefused, JournalFull, Line, BankFault, FolderFault, BadJournal, NoMemory}
 
 -- words in a row, a blank between each two
 unfoldable pub words : List (List ℕ) → List ℕ
@@ -137,6 +138,10 @@ refusal_line (BadWord number) = words (codes "refused: bad word" ∷ decimal num
 refusal_line LineTooLong = codes "refused: line too long"
 refusal_line WantOfMemory = codes "no memory"
 
+-- what is wrong at a line of a command file
+abbrev pub at_line : CommandFile → ℕ → List ℕ → List (List ℕ)
+at_line file line fault = codes "refused:" ∷ file_text file ∷ codes "line" ∷ (decimal line ++ codes ":") ∷ fault ∷ []
+
 unfoldable pub lines_of : Reply → List (List ℕ)
 lines_of (Stored inode created) = words (codes "ok" ∷ decimal inode ∷ []) ∷ []
 lines_of (Done inode) = words (codes "ok" ∷ decimal inode ∷ []) ∷ []
@@ -164,7 +169,8 @@ lines_of (Queue rows) = report_lines (codes "queue") queue_line rows
 lines_of (Summary row) = summary_lines row
 lines_of (Refused rule) = words (codes "refused:" ∷ rule_text rule ∷ []) ∷ []
 lines_of (Claimed daemon job) = words (codes "refused: claimed by" ∷ daemon_text daemon ∷ codes "job" ∷ decimal job ∷ []) ∷ []
-lines_of (PatternRefused file line) = words (codes "refused:" ∷ file_text file ∷ codes "line" ∷ (decimal line ++ codes ":") ∷ codes "pattern refused" ∷ []) ∷ []
+lines_of (ConfRefused file line fault) = words (at_line file line (fault_text fault)) ∷ []
+lines_of (PatternRefused file line) = words (at_line file line (codes "pattern refused")) ∷ []
 lines_of JournalFull = codes "refused: journal full" ∷ []
 lines_of (Line refusal) = refusal_line refusal ∷ []
 lines_of BankFault = codes "fault: bank" ∷ []

@@ -1,7 +1,7 @@
 //! The texts of answers.
 
 ghost use Rattle.std.specs.Prelude.{◌≡◌, [], ◌∷◌, ◌++◌, codes, decimal, length, IfOk, OnOk};
-ghost use Rattle.desk.specs.Texts.{words, ended, lines_of, text_of, daemon_text, file_text, refusal_line, vsn_text};
+ghost use Rattle.desk.specs.Texts.{words, ended, lines_of, text_of, daemon_text, file_text, at_line, refusal_line, vsn_text};
 
 use crate::line::{Word, write_line};
 use crate::names::{cause_text, daemon_text, file_text, rule_text, vsn_text};
@@ -81,16 +81,20 @@ fn write_claimed(out: &mut Bytes, daemon: Daemon, job: u64) -> Result<(), AllocE
     write_line(out, &line)
 }
 
-fn write_pattern(out: &mut Bytes, file: CommandFile, line: u32) -> Result<(), AllocError>
-    ensures { OnOk result (out.new ≡ out.old ++ ended (words (
-        codes "refused:" ∷ file_text file ∷ codes "line" ∷ (decimal line ++ codes ":") ∷ codes "pattern refused" ∷ []) ∷ [])) }
+fn write_at_line(
+    out: &mut Bytes,
+    file: CommandFile,
+    line: u32,
+    fault: &[u8],
+) -> Result<(), AllocError>
+    ensures { OnOk result (out.new ≡ out.old ++ ended (words (at_line file line fault.now) ∷ [])) }
 {
     let line = [
         Word::Text(b"refused:"),
         Word::Text(file_text(file)),
         Word::Text(b"line"),
         Word::Place(u64::from(line)),
-        Word::Text(b"pattern refused"),
+        Word::Text(fault),
     ];
     write_line(out, &line)
 }
@@ -137,7 +141,12 @@ fn write_lines(out: &mut Bytes, reply: &Reply) -> Result<(), AllocError>
         Reply::Summary(row) => write_summary(out, row),
         Reply::Refused(rule) => write_name(out, b"refused:", rule_text(*rule)),
         Reply::Claimed { daemon, job } => write_claimed(out, *daemon, *job),
-        Reply::PatternRefused { file, line } => write_pattern(out, *file, *line),
+        Reply::ConfRefused { file, line, fault } => {
+            write_at_line(out, *file, *line, fault.text().as_bytes())
+        }
+        Reply::PatternRefused { file, line } => {
+            write_at_line(out, *file, *line, b"pattern refused")
+        }
         Reply::JournalFull => write_text(out, b"refused: journal full"),
         Reply::Line(refusal) => write_refusal(out, *refusal),
         Reply::BankFault => write_text(out, b"fault: bank"),

@@ -5,7 +5,7 @@ use records::{
     Asked, CommandFile, Daemon, Event, FileRow, FileState, IdleCause, LineRefusal, Reply, Rule,
     SetRow, SummaryRow, VolumeRow, Vsn,
 };
-use site_text::{Bytes, List};
+use site_text::{Bytes, ConfFault, List};
 use std::alloc::{AllocError, Global};
 
 fn writes(alloc: Global, reply: &Reply, wanted: &[u8]) -> bool {
@@ -48,6 +48,14 @@ fn short_answers(rt: HostRuntime) {
                 job: 1,
             },
             b"refused: claimed by archiver job 1\n",
+        ),
+        (
+            Reply::ConfRefused {
+                file: CommandFile::Recycler,
+                line: 12,
+                fault: ConfFault::CopyBeforeSet,
+            },
+            b"refused: recycler.cmd line 12: copy before set\n",
         ),
         (
             Reply::PatternRefused {

@@ -7,7 +7,7 @@ use Rattle.std.specs.Str.{bytes_eq}
 use Rattle.records.specs.declared.file.FileRec.{FileRec}
 use Rattle.records.specs.declared.file.Run.{Run}
 use Rattle.cache_space.specs.Space.{taken_by, AreApart}
-use Rattle.site_history.specs.Site.{Fields, Site, file_at, held_runs, with_file}
+use Rattle.site_history.specs.Site.{Fields, Site, file_at, held_runs, with_file, cache_blocks}
 use Rattle.site_history.specs.Steps.{PutOf, stored_file, accessed_by, without_file, IsThere, IsLegalPut, next_after, put_effect}
 use Rattle.site_history.proofs.FileLaws.{with_file-new, with_file-set, accessed-set, without_file-remove, all_at, AreBelow}
 use Rattle.site_history.proofs.HeldRuns.{held-push, replaced-taken, replaced-apart, removed-taken, removed-apart}
@@ -67,17 +67,17 @@ module _ (count : ℕ) (site : Site) (orderly : IsOrderly count site) (old : Sit
     -- after which the blocks of the file are free
     pub removed_space : (file : FileRec) (space : List Bool) → slice_get old.files.list index ≡ Some file
         → ((total : ℕ) (kept : List Run) → old.space ≡ taken_by total (kept ++ file.runs) → AreApart kept file.runs → space ≡ taken_by total kept)
-        → space ≡ taken_by site.fields.blocks (held_runs (without_file inode site.fields.files))
+        → space ≡ taken_by (cache_blocks site.fields) (held_runs (without_file inode site.fields.files))
     removed_space file space is gives =
         let both : Some file ≡ Some at.item = sym is ∙ first-slice_get (λ (f : FileRec). f.inode == inode) old.files.list index at in
         let one : file ≡ at.item = cc in
         let runs : (get_or site.fields.files index at.item).runs ≡ file.runs = ap (λ (f : FileRec). f.runs) (here at.item ∙ sym one) in
-        gives site.fields.blocks (held_runs (remove site.fields.files index))
-        (keeps.space ∙ removed-taken site.fields.blocks site.fields.files index at.item within_fields
-        ∙ ap (λ (l : List Run). taken_by site.fields.blocks (held_runs (remove site.fields.files index) ++ l)) runs)
+        gives (cache_blocks site.fields) (held_runs (remove site.fields.files index))
+        (keeps.space ∙ removed-taken (cache_blocks site.fields) site.fields.files index at.item within_fields
+        ∙ ap (λ (l : List Run). taken_by (cache_blocks site.fields) (held_runs (remove site.fields.files index) ++ l)) runs)
         (subst (λ (l : List Run). AreApart (held_runs (remove site.fields.files index)) l) runs
-        (removed-apart site.fields.blocks site.fields.files index at.item within_fields orderly.disjoint))
-        ∙ ap (λ (l : List FileRec). taken_by site.fields.blocks (held_runs l))
+        (removed-apart (cache_blocks site.fields) site.fields.files index at.item within_fields orderly.disjoint))
+        ∙ ap (λ (l : List FileRec). taken_by (cache_blocks site.fields) (held_runs l))
         (sym (without_file-remove 1 inode site.fields.files index at.item orderly.rising within_fields of_inode))
 
   -- a put that is legal
@@ -133,19 +133,19 @@ module _ (count : ℕ) (site : Site) (orderly : IsOrderly count site) (old : Sit
           → ((file : FileRec) → slice_get old.files.list index ≡ Some file → runs ≡ file.runs)
           → ((total : ℕ) (held : List Run) → old.space ≡ taken_by total held → held_too ≡ taken_by total (held ++ given))
           → ((total : ℕ) (kept : List Run) → held_too ≡ taken_by total (kept ++ runs) → AreApart kept runs → space ≡ taken_by total kept)
-          → space ≡ taken_by site.fields.blocks (held_runs (put_effect moment put site.fields).files)
+          → space ≡ taken_by (cache_blocks site.fields) (held_runs (put_effect moment put site.fields).files)
       replaced_space runs given held_too space same of_file holds gives =
           let there_now = first-slice_get (λ (file : FileRec). bytes_eq file.path put.path) old.files.list index at_file in
           let before : (get_or site.fields.files index at_file.item).runs ≡ runs = ap (λ (f : FileRec). f.runs) (replaced_here at_file.item) ∙ sym (of_file at_file.item there_now) in
           let new = stored_file (Some at_file.item) moment put in
-          gives site.fields.blocks (held_runs (set site.fields.files index new))
-          (holds site.fields.blocks (held_runs site.fields.files) keeps.space
-          ∙ ap (λ (l : List Run). taken_by site.fields.blocks (held_runs site.fields.files ++ l)) same
-          ∙ replaced-taken site.fields.blocks site.fields.files index at_file.item replaced_within new
-          ∙ ap (λ (l : List Run). taken_by site.fields.blocks (held_runs (set site.fields.files index new) ++ l)) before)
+          gives (cache_blocks site.fields) (held_runs (set site.fields.files index new))
+          (holds (cache_blocks site.fields) (held_runs site.fields.files) keeps.space
+          ∙ ap (λ (l : List Run). taken_by (cache_blocks site.fields) (held_runs site.fields.files ++ l)) same
+          ∙ replaced-taken (cache_blocks site.fields) site.fields.files index at_file.item replaced_within new
+          ∙ ap (λ (l : List Run). taken_by (cache_blocks site.fields) (held_runs (set site.fields.files index new) ++ l)) before)
           (subst (λ (l : List Run). AreApart (held_runs (set site.fields.files index new)) l) before
-          (replaced-apart site.fields.blocks site.fields.files index at_file.item replaced_within new orderly.disjoint legal.free.1))
-          ∙ ap (λ (l : List FileRec). taken_by site.fields.blocks (held_runs l)) (set_with ∙ put_files (Some at_file.item) there)
+          (replaced-apart (cache_blocks site.fields) site.fields.files index at_file.item replaced_within new orderly.disjoint legal.free.1))
+          ∙ ap (λ (l : List FileRec). taken_by (cache_blocks site.fields) (held_runs l)) (set_with ∙ put_files (Some at_file.item) there)
 
     -- the path has none: the file is new
     module _ (found : position (λ (file : FileRec). bytes_eq file.path put.path) old.files.list ≡ None) where
@@ -177,10 +177,10 @@ module _ (count : ℕ) (site : Site) (orderly : IsOrderly count site) (old : Sit
 
       pub new_space : (given : List Run) (space : List Bool) → given ≡ put.runs
           → ((total : ℕ) (held : List Run) → old.space ≡ taken_by total held → space ≡ taken_by total (held ++ given))
-          → space ≡ taken_by site.fields.blocks (held_runs (put_effect moment put site.fields).files)
+          → space ≡ taken_by (cache_blocks site.fields) (held_runs (put_effect moment put site.fields).files)
       new_space given space same holds =
-          holds site.fields.blocks (held_runs site.fields.files) keeps.space
-          ∙ ap (λ (l : List Run). taken_by site.fields.blocks (held_runs site.fields.files ++ l)) same
-          ∙ ap (λ (l : List Run). taken_by site.fields.blocks l) (sym (held-push site.fields.files (stored_file None moment put)))
-          ∙ ap (λ (l : List FileRec). taken_by site.fields.blocks (held_runs l))
+          holds (cache_blocks site.fields) (held_runs site.fields.files) keeps.space
+          ∙ ap (λ (l : List Run). taken_by (cache_blocks site.fields) (held_runs site.fields.files ++ l)) same
+          ∙ ap (λ (l : List Run). taken_by (cache_blocks site.fields) l) (sym (held-push site.fields.files (stored_file None moment put)))
+          ∙ ap (λ (l : List FileRec). taken_by (cache_blocks site.fields) (held_runs l))
           (sym (with_file-new (stored_file None moment put) site.fields.files (subst (λ (n : ℕ). AreBelow n site.fields.files) (sym new_inode) orderly.below)) ∙ put_files None none)

@@ -1,12 +1,16 @@
 -- What the code's tests of a step say of it.
-use Rattle.std.proofs.Common.{arith, get_or, zero-add, eqb-true, ◌≡◌, ℕ, ◌<◌, ◌≤◌, List, ◌∷◌, ◌++◌, length, sym, ◌∙◌, ap, Bool, Option, Some, None}
+use Rattle.std.proofs.Common.{refl, arith, get_or, zero-add, eqb-true, ◌≡◌, ℕ, ◌<◌, ◌≤◌, List, ◌∷◌, ◌++◌, length, sym, ◌∙◌, ap, Bool, Option, Some, None}
 use Rattle.std.specs.Prelude.{◌↔◌, MatchOption, IsTrue, ◌==◌, position}
 use Rattle.std.specs.Option.{option_map_or}
 use Rattle.std.specs.Str.{bytes_eq}
 use Rattle.std.proofs.lemmas.Bool.Decides.{nat_tests}
 use Rattle.records.specs.declared.file.FileRec.{FileRec}
+use Rattle.records.specs.declared.file.Run.{Run}
+use Rattle.records.specs.declared.file.SiteTexts.{SiteTexts}
+use Rattle.records.specs.declared.step.StepKind.{StepKind}
+use Rattle.records.specs.declared.step.StepKind.TheVariants.{Configured, Put, Accessed, Removed}
 use Rattle.site_history.specs.Site.{Fields, file_at}
-use Rattle.site_history.specs.Steps.{inode_for}
+use Rattle.site_history.specs.Steps.{inode_for, IsLegal}
 use Rattle.engine.proofs.Places.{FirstAt, first_at, none_passes, find-first, find-none, get_or-at}
 
 -- the place of a path's file
@@ -73,3 +77,13 @@ pub takes_other : (fields : Fields) (files : List FileRec) (path : List ℕ) (in
 takes_other fields files path inode next same same_next e differs =
     let there = inode_next fields path inode (ap (λ (l : List FileRec). file_at path l) (sym same) ∙ file_at-none path files e) in
     (λ t. absurd (differs (eqb-true inode next t)), λ both. absurd (differs ((there.0 both).0 ∙ sym same_next)))
+
+-- a step of a kind that is not served never may come
+pub not_served : (fields : Fields) (moment : ℕ) (kind : StepKind) → ((texts : SiteTexts) → kind ≡ Configured texts → ⊥)
+    → ((inode : ℕ) (path owner group : List ℕ) (size : ℕ) (runs : List Run) → kind ≡ Put inode path owner group size runs → ⊥)
+    → ((inode : ℕ) → kind ≡ Accessed inode → ⊥) → ((inode : ℕ) → kind ≡ Removed inode → ⊥) → IsLegal fields (record { moment = moment; kind = kind }) → ⊥
+not_served fields moment (Configured texts) configured put accessed removed legal = configured texts refl
+not_served fields moment (Put inode path owner group size runs) configured put accessed removed legal = put inode path owner group size runs refl
+not_served fields moment (Accessed inode) configured put accessed removed legal = accessed inode refl
+not_served fields moment (Removed inode) configured put accessed removed legal = removed inode refl
+not_served fields moment _ configured put accessed removed legal = legal.2

@@ -9,6 +9,7 @@ pub mod Committing
 pub mod Found
 pub mod Turning
 pub mod Removing
+pub mod Configuring
 pub mod Accessing
 pub mod Asking
 pub mod Putting

@@ -11,7 +11,7 @@ use Rattle.records.specs.declared.reply.Reply.TheVariants.{Stored}
 use Rattle.records.specs.declared.step.Step.{Step}
 use Rattle.records.specs.Written.{written}
 use Rattle.cache_space.specs.Blocks.{blocks_for, free_blocks, lowest_runs}
-use Rattle.site_history.specs.Site.{Fields, file_at, held_runs}
+use Rattle.site_history.specs.Site.{Fields, file_at, held_runs, cache_blocks}
 use Rattle.site_history.specs.Steps.{HistoryStep, IsLegal, inode_for}
 use Rattle.site_history.specs.Histories.{after}
 use Rattle.site_history.specs.Worlds.{World, at}
@@ -40,10 +40,10 @@ module _ {B P : Type 0} (told : Bool) (view : B → View) (engine : Engine B P) 
 
   -- the runs that it takes
   abbrev pub taking : List Run
-  taking = lowest_runs (after history).fields.blocks (held_runs (after history).fields.files) (blocks_for (length bytes))
+  taking = lowest_runs (cache_blocks (after history).fields) (held_runs (after history).fields.files) (blocks_for (length bytes))
 
   -- so many blocks are free
-  pub room_enough : blocks_for (length bytes) ≤ length (free_blocks (after history).fields.blocks (held_runs (after history).fields.files))
+  pub room_enough : blocks_for (length bytes) ≤ length (free_blocks (cache_blocks (after history).fields) (held_runs (after history).fields.files))
   room_enough = (admitted (after history).fields path owner group (length bytes) rule).space
 
   -- the answer, where its parts are known by other names

@@ -15,6 +15,7 @@ use Rattle.site_history.specs.Images.{written_forms}
 use Rattle.site_history.proofs.HistoryLaws.{after-push, history-push}
 use Rattle.site_history.proofs.Commits.{written_forms-push}
 use Rattle.engine.specs.declared.kept.SiteFiles.{SiteFiles}
+use Rattle.engine.specs.declared.prepare.Prepared.{Prepared}
 use Rattle.engine.specs.StandsFor.{Keeps}
 use Rattle.engine.specs.Replays.{IsOfNoStep, IsRead, Replays, HasBadPayload}
 
@@ -66,15 +67,15 @@ next_place payloads i place most payload lt is small at =
     omega (arith, more, whole, end-above (end_of 0 (take (i + 1) payloads)) (drop (i + 1) payloads), small, at)
 
 -- what the reading of a payload says
-pub read_none : (fields : Fields) (payload asked : List ℕ) (read : Option Step) → read ≡ None → asked ≡ payload → IsRead fields asked read → IsOfNoStep fields payload
+pub read_none : (fields : Fields) (payload asked : List ℕ) (read : Option Prepared) → read ≡ None → asked ≡ payload → IsRead fields asked read → IsOfNoStep fields payload
 read_none fields payload asked None is same h = subst (λ (p : List ℕ). IsOfNoStep fields p) same h
-read_none fields payload asked (Some step) is same h = absurd (let differs : Some step ≡ None = is in cc)
+read_none fields payload asked (Some prepared) is same h = absurd (let differs : Some prepared ≡ None = is in cc)
 
-pub read_some : (fields : Fields) (payload asked : List ℕ) (read : Option Step) (step : Step) → read ≡ Some step → asked ≡ payload → IsRead fields asked read → IsLegal fields step × (payload ≡ written step)
-read_some fields payload asked None step is same h = absurd (let differs : None ≡ Some step = is in cc)
-read_some fields payload asked (Some s) step is same h =
-    let one : s ≡ step = cc in
-    (subst (λ (x : Step). IsLegal fields x) one h.0, sym same ∙ h.1 ∙ ap (λ (x : Step). written x) one)
+pub read_some : (fields : Fields) (payload asked : List ℕ) (read : Option Prepared) (prepared : Prepared) → read ≡ Some prepared → asked ≡ payload → IsRead fields asked read → IsLegal fields prepared.step × (payload ≡ written prepared.step)
+read_some fields payload asked None prepared is same h = absurd (let differs : None ≡ Some prepared = is in cc)
+read_some fields payload asked (Some p) prepared is same h =
+    let one : p ≡ prepared = cc in
+    (subst (λ (x : Prepared). IsLegal fields x.step) one h.0, sym same ∙ h.1 ∙ ap (λ (x : Prepared). written x.step) one)
 
 -- behind the steps so far stands a payload of no step that may come
 pub bad_payload : (site : SiteFiles) (payloads : List (List ℕ)) (i place : ℕ) (payload : List ℕ) (so_far : Replays site (take i payloads)) → i < length payloads → payload ≡ get_or payloads i payload

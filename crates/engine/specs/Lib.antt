@@ -1,6 +1,7 @@
 pub mod Fields
 pub mod FileList
 pub mod Room
+pub mod Legal
 pub mod Replays
 pub mod StandsFor
 pub mod Journals

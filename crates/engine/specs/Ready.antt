@@ -31,6 +31,7 @@ pub record IsUnmoved {B P : Type 0} (old new : Engine B P) : Type 0 where
   pub files : new.site.files.list ≡ old.site.files.list
   pub next_inode : new.site.next_inode ≡ old.site.next_inode
   pub moment : new.site.moment ≡ old.site.moment
+  pub configuration : new.site.configuration ≡ old.site.configuration
   pub space : new.site.space ≡ old.site.space
   pub steps : new.steps ≡ old.steps
   pub clock : new.clock ≡ old.clock

@@ -9,6 +9,7 @@ use Rattle.site_history.specs.Steps.{HistoryStep, IsLegal}
 use Rattle.site_history.specs.Histories.{after, IsHistory, journal_length}
 use Rattle.site_history.specs.Images.{written_forms}
 use Rattle.engine.specs.declared.kept.SiteFiles.{SiteFiles}
+use Rattle.engine.specs.declared.prepare.Prepared.{Prepared}
 use Rattle.engine.specs.declared.engine.ShutCause.{ShutCause}
 use Rattle.engine.specs.declared.engine.ShutCause.TheVariants.{BankFault, BadJournal, NoMemory}
 use Rattle.engine.specs.StandsFor.{Keeps}
@@ -18,8 +19,8 @@ abbrev pub IsOfNoStep : Fields → List ℕ → Type 0
 IsOfNoStep fields payload = (step : Step) → written step ≡ payload → IsLegal fields step → ⊥
 
 -- it is that of this step, or of none that may come
-abbrev pub IsRead : Fields → List ℕ → Option Step → Type 0
-IsRead fields payload read = MatchOption read (IsOfNoStep fields payload) (λ step. IsLegal fields step × (payload ≡ written step))
+abbrev pub IsRead : Fields → List ℕ → Option Prepared → Type 0
+IsRead fields payload read = MatchOption read (IsOfNoStep fields payload) (λ prepared. IsLegal fields prepared.step × (payload ≡ written prepared.step))
 
 -- these payloads are the written forms of a history, and the files are what it leaves
 pub record Replays (site : SiteFiles) (payloads : List (List ℕ)) : Type 0 where

@@ -1,16 +1,18 @@
 //! What a step changes of a site.
 
-ghost use Rattle.std.specs.Prelude.{◌≡◌, ◌+◌, ◌<◌, ◌^◌, List as Seq, None, length};
+ghost use Rattle.std.specs.Prelude.{◌≡◌, ◌+◌, ◌<◌, ◌^◌, List as Seq, [], None, length};
 ghost use Rattle.records.specs.Ranges.{IsInode};
 ghost use Rattle.records.specs.Written.{InRange};
-ghost use Rattle.site_history.specs.Site.{file_at};
-ghost use Rattle.site_history.specs.Steps.{HistoryStep, IsLegal, IsLegalPut, IsThere, put_effect, accessed_effect, removed_effect, fields_after};
+ghost use Rattle.records.specs.declared.file.SiteTexts.{SiteTexts};
+ghost use Rattle.site_history.specs.Site.{Fields, file_at};
+ghost use Rattle.site_history.specs.Steps.{HistoryStep, IsLegal, IsLegalPut, IsThere, put_effect, accessed_effect, removed_effect, configured_effect, fields_after};
 ghost use Rattle.site_history.specs.Histories.{after, IsHistory};
 ghost use Rattle.engine.specs.Fields.{put_of};
-ghost use Rattle.engine.specs.Room.{HasRoomFor};
+ghost use Rattle.engine.specs.Room.{IsSettingOf, IsPrepared};
 ghost use Rattle.engine.specs.StandsFor.{Keeps};
 
 use crate::kept::SiteFiles;
+use crate::prepare::{Prepared, Setting};
 use crate::stored::{PutFields, new_file};
 use records::{Step, StepKind};
 
@@ -63,13 +65,25 @@ impl SiteFiles {
         }
     }
 
-    /// Makes a step, which is legal behind the history so far. It takes no memory.
-    pub fn apply(&mut self, step: Step)
-        requires range { InRange step }
-        requires room { HasRoomFor self.old.files step }
-        ensures { (steps : Seq HistoryStep) → IsHistory steps → length steps + 1 < 2 ^ 64 → Keeps self.old (after steps).fields → IsLegal (after steps).fields step
-            → Keeps self.new (fields_after step (after steps).fields) }
+    // Keeps what a configuration brings, where no file is.
+    fn apply_setting(&mut self, moment: u64, setting: Setting)
+        requires range { moment < 2 ^ 40 }
+        ensures { (fields : Fields) (texts : SiteTexts) → Keeps self.old fields → fields.files ≡ [] → IsSettingOf texts setting
+            → Keeps self.new (configured_effect moment texts fields) }
     {
+        self.moment = moment;
+        self.configuration = setting.configuration;
+        self.space = setting.space;
+    }
+
+    /// Makes a step, which is legal behind the history so far. It takes no memory.
+    pub fn apply(&mut self, prepared: Prepared)
+        requires range { InRange prepared.step }
+        requires prepared { IsPrepared self.old prepared }
+        ensures { (steps : Seq HistoryStep) → IsHistory steps → length steps + 1 < 2 ^ 64 → Keeps self.old (after steps).fields → IsLegal (after steps).fields prepared.step
+            → Keeps self.new (fields_after prepared.step (after steps).fields) }
+    {
+        let Prepared { step, setting } = prepared;
         let Step { moment, kind } = step;
         match kind {
             StepKind::Put {
@@ -92,6 +106,12 @@ impl SiteFiles {
             }
             StepKind::Accessed { inode } => self.apply_access(moment, inode),
             StepKind::Removed { inode } => self.apply_removal(moment, inode),
+            StepKind::Configured(_) => {
+                // The texts were read when the step was prepared.
+                if let Some(setting) = setting {
+                    self.apply_setting(moment, setting);
+                }
+            }
             _ => {}
         }
     }

@@ -7,28 +7,28 @@ ghost use Rattle.journal.specs.Records.{IsPayload};
 ghost use Rattle.site_history.specs.Steps.{HistoryStep};
 ghost use Rattle.site_history.specs.Worlds.{at};
 ghost use Rattle.engine.specs.Ready.{IsReady, owing};
-ghost use Rattle.engine.specs.Room.{HasRoomFor};
+ghost use Rattle.engine.specs.Room.{IsPrepared};
 ghost use Rattle.engine.specs.StandsFor.{Moves};
 
 use crate::kept::Engine;
+use crate::prepare::Prepared;
 use bank::{Bank, BankFailed};
 use journal::AppendRefusal;
-use records::Step;
 
 impl<B: Bank, P: Drop> Engine<B, P> {
     /// Records a step whose written form is the payload, and for which the journal has room, and makes it. At an error a
     /// reopening is due: the journal may hold the step or not.
-    pub fn commit(&mut self, step: Step) -> Result<(), BankFailed>
+    pub fn commit(&mut self, prepared: Prepared) -> Result<(), BankFailed>
         requires ready { self.old.due ≡ false }
         requires payload { IsPayload self.old.payload.items }
         requires fits { self.old.journal.place + 6 + length self.old.payload.items ≤ self.old.journal.size }
-        requires range { InRange step }
-        requires room { HasRoomFor self.old.site.files step }
+        requires range { InRange prepared.step }
+        requires prepared { IsPrepared self.old.site prepared }
         // At `Ok` the step is acknowledged: the engine stands for the history with it.
-        ensures made { (told : Bool) → (IsTrue told → IsTrue B.tells) → (history : Seq HistoryStep) → (made : HistoryStep) → made.step ≡ step → IsReady told B.view self.old history made
+        ensures made { (told : Bool) → (IsTrue told → IsTrue B.tells) → (history : Seq HistoryStep) → (made : HistoryStep) → made.step ≡ prepared.step → IsReady told B.view self.old history made
             → OnOk result (Moves told B.view self.old self.new (at history self.old.clock) (at (history ++ made ∷ []) self.old.clock)) }
         // At an error the step is owed.
-        ensures owed { (told : Bool) → (IsTrue told → IsTrue B.tells) → (history : Seq HistoryStep) → (made : HistoryStep) → made.step ≡ step → IsReady told B.view self.old history made
+        ensures owed { (told : Bool) → (IsTrue told → IsTrue B.tells) → (history : Seq HistoryStep) → (made : HistoryStep) → made.step ≡ prepared.step → IsReady told B.view self.old history made
             → OnErr result (Moves told B.view self.old self.new (at history self.old.clock) (owing history self.old.clock made)) }
         ensures fault { OnErr result (Rose (B.faults self.old.bank) (B.faults self.new.bank)) }
         ensures area { OnErr result (B.last_fault self.new.bank ≡ 0) }
@@ -43,7 +43,7 @@ impl<B: Bank, P: Drop> Engine<B, P> {
         match self.journal.append(&mut self.bank, &self.payload) {
             Ok(_) => {
                 self.steps = self.journal.count();
-                self.site.apply(step);
+                self.site.apply(prepared);
                 Ok(())
             }
             Err(AppendRefusal::JournalFull) => unreachable!(),

@@ -4,7 +4,9 @@ ghost use Rattle.std.specs.Prelude.{◌≡◌, ◌≢◌, ◌≤◌, ◌<◌, �
 ghost use Rattle.site_text.specs.Causes.{Rose};
 ghost use Rattle.bank.specs.Content.{Content};
 ghost use Rattle.bank.specs.View.{OnlyRead};
+ghost use Rattle.configuration.specs.Says.{Says};
 ghost use Rattle.site_history.specs.Steps.{HistoryStep};
+ghost use Rattle.site_history.specs.Histories.{after};
 ghost use Rattle.site_history.specs.Worlds.{World, Turn, EventTurn, at, moment_of, new_world, IsFound, RefusesReopening};
 ghost use Rattle.site_history.specs.Images.{IsSettled};
 ghost use Rattle.site_history.specs.Journals.{HoldsHistory};
@@ -14,6 +16,7 @@ ghost use Rattle.engine.specs.Journals.{TellsJournal, RepliesJournal};
 use crate::kept::Engine;
 use crate::reopen::read_site;
 use bank::Bank;
+use configuration::Configuration;
 use records::{Event, LineRefusal, Reply};
 use std::alloc::Global;
 
@@ -189,6 +192,7 @@ impl<B: Bank, P: Drop> Engine<B, P> {
             ),
             Event::Read { path, upto } => self.read(path.as_slice(), *upto),
             Event::Remove { path } => self.remove(path.as_slice()),
+            Event::Configure { texts } => self.configure(texts),
             _ => Reply::Line(LineRefusal::NotACommand),
         }
     }
@@ -198,6 +202,14 @@ impl<B: Bank, P: Drop> Engine<B, P> {
         ensures { (told : Bool) (w : World) → StandsFor told B.view self.now w → result ≡ length w.history }
     {
         self.steps
+    }
+
+    /// What the command files of the site say. Where a reopening is due they may be others than those of the history.
+    pub fn configuration(&self) -> &Configuration
+        ensures kept { result.now ≡ self.now.site.configuration }
+        ensures says { (told : Bool) (w : World) → StandsFor told B.view self.now w → self.now.due ≡ false → Says (after w.history).fields.texts result.now }
+    {
+        &self.site.configuration
     }
 
     /// The store.

@@ -4,10 +4,11 @@ ghost use Rattle.std.specs.Prelude.{◌≤◌, ◌<◌, ◌^◌};
 
 use crate::files::Files;
 use cache_space::CacheSpace;
+use configuration::Configuration;
 use journal::Journal;
 use std::alloc::Global;
 
-/// The files of a site without their bytes, and the blocks that they hold.
+/// The files of a site without their bytes, what its command files say, and the blocks that the files hold.
 #[derive(Drop)]
 pub struct SiteFiles {
     /// By rising inode.
@@ -16,6 +17,7 @@ pub struct SiteFiles {
     pub next_inode: u32,
     /// The moment of the last step, in seconds.
     pub moment: u64,
+    pub configuration: Configuration,
     pub space: CacheSpace,
     pub ghost from_one: { 1 ≤ next_inode },
     pub ghost range: { moment < 2 ^ 40 },

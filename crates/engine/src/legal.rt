@@ -5,12 +5,14 @@ ghost use Rattle.records.specs.Paths.{is_legal_path, is_legal_name};
 ghost use Rattle.records.specs.Written.{InRange};
 ghost use Rattle.cache_space.specs.Blocks.{blocks_for};
 ghost use Rattle.cache_space.specs.Space.{AreFree, AreMaximal, blocks_in};
-ghost use Rattle.site_history.specs.Site.{Fields, file_at, held_runs};
-ghost use Rattle.site_history.specs.Steps.{inode_for, IsThere, IsLegal};
+ghost use Rattle.site_history.specs.Site.{Fields, file_at, held_runs, cache_blocks};
+ghost use Rattle.site_history.specs.Steps.{inode_for, IsThere};
+ghost use Rattle.engine.specs.Legal.{MayCome, AreTextsWithin};
 ghost use Rattle.engine.specs.StandsFor.{Keeps};
 
 use crate::kept::SiteFiles;
 use cache_space::{are_maximal, blocks_needed, have_blocks};
+use configuration::are_within;
 use records::{Run, Step, StepKind, is_legal_name, is_legal_path};
 
 /// The most bytes of a file.
@@ -51,7 +53,7 @@ impl SiteFiles {
     // Whether these runs are maximal runs of free blocks, as many as so many bytes need.
     fn takes_runs(&self, size: u64, runs: &[Run]) -> bool
         ensures { (fields : Fields) → Keeps self.now fields → (IsTrue result
-            ↔ ((size ≤ 16777216) × AreMaximal runs.now × AreFree fields.blocks (held_runs fields.files) runs.now × (blocks_in runs.now ≡ blocks_for size))) }
+            ↔ ((size ≤ 16777216) × AreMaximal runs.now × AreFree (cache_blocks fields) (held_runs fields.files) runs.now × (blocks_in runs.now ≡ blocks_for size))) }
     {
         size <= FILE_MAX
             && are_maximal(runs)
@@ -66,14 +68,16 @@ impl SiteFiles {
         self.files.find_inode(inode).is_some()
     }
 
-    /// Whether a step may come. A step of a kind that is not served never may.
-    pub fn is_legal(&self, step: &Step) -> bool
-        ensures { (fields : Fields) → Keeps self.now fields → InRange step.now → (IsTrue result ↔ IsLegal fields step.now) }
+    /// Whether a step may come, before the texts of a configuration are read. A step of a kind that is not served never may.
+    pub fn may_come(&self, step: &Step) -> bool
+        ensures test { (fields : Fields) → Keeps self.now fields → InRange step.now → (IsTrue result ↔ MayCome fields step.now) }
+        ensures within { IsTrue result → AreTextsWithin step.now }
     {
         if step.moment < self.moment {
             return false;
         }
         match &step.kind {
+            StepKind::Configured(texts) => self.files.len() == 0 && are_within(texts),
             StepKind::Put {
                 inode,
                 path,

@@ -3,12 +3,14 @@
 
 mod apply;
 mod commit;
+mod configure;
 mod data;
 mod engine;
 mod files;
 mod kept;
 mod legal;
 mod payload;
+mod prepare;
 mod put;
 mod read;
 mod remove;
@@ -19,7 +21,9 @@ mod stored;
 #[cfg(test)]
 mod tests;
 
+pub use configuration::{Configuration, read_texts};
 pub use engine::{Shut, ShutCause};
 pub use files::Files;
 pub use kept::{Engine, SiteFiles};
+pub use prepare::{Prepared, Setting};
 pub use stored::PutFields;

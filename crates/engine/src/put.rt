@@ -11,13 +11,13 @@ ghost use Rattle.records.specs.declared.file.Run.{Run};
 ghost use Rattle.journal.specs.Records.{IsPayload};
 ghost use Rattle.cache_space.specs.Blocks.{blocks_for, free_blocks, lowest_runs};
 ghost use Rattle.cache_space.specs.Space.{taken_by, AreMaximal};
-ghost use Rattle.site_history.specs.Site.{Fields, held_runs};
+ghost use Rattle.site_history.specs.Site.{Fields, held_runs, cache_blocks};
 ghost use Rattle.site_history.specs.Steps.{HistoryStep, inode_for};
 ghost use Rattle.site_history.specs.Answers.{put_made};
 ghost use Rattle.site_history.specs.Worlds.{World, at, Turn};
 ghost use Rattle.engine.specs.Fields.{put_runs};
 ghost use Rattle.engine.specs.Ready.{IsUnmoved};
-ghost use Rattle.engine.specs.Room.{HasRoomFor};
+ghost use Rattle.engine.specs.Room.{IsPrepared};
 ghost use Rattle.bank.specs.Content.{Content};
 ghost use Rattle.engine.specs.Journals.{RepliesJournal};
 ghost use Rattle.engine.specs.StandsFor.{Keeps, StandsFor, Moves};
@@ -25,6 +25,7 @@ ghost use Rattle.engine.specs.StandsFor.{Keeps, StandsFor, Moves};
 use crate::data::store;
 use crate::kept::Engine;
 use crate::payload::write_payload;
+use crate::prepare::Prepared;
 use bank::Bank;
 use cache_space::{CacheSpace, blocks_needed};
 use records::{Reply, Run, Step, StepKind};
@@ -65,17 +66,17 @@ impl<B: Bank, P: Drop> Engine<B, P> {
         owner: &[u8],
         group: &[u8],
         size: u32,
-    ) -> Result<Step, AllocError>
+    ) -> Result<Prepared, AllocError>
         requires small { size ≤ 16777216 }
         requires inode { IsInode inode }
         requires legal { IsTrue (is_legal_path path.now) × IsTrue (is_legal_name owner.now) × IsTrue (is_legal_name group.now) }
-        ensures step { (fields : Fields) → Keeps self.old.site fields → inode ≡ inode_for fields path.now → blocks_for size ≤ length (free_blocks fields.blocks (held_runs fields.files))
-            → IfOk result (λ step. step ≡ put_made fields self.old.clock path.now owner.now group.now size) }
-        ensures written { IfOk result (λ step. self.new.payload.items ≡ written step) }
+        ensures step { (fields : Fields) → Keeps self.old.site fields → inode ≡ inode_for fields path.now → blocks_for size ≤ length (free_blocks (cache_blocks fields) (held_runs fields.files))
+            → IfOk result (λ prepared. prepared.step ≡ put_made fields self.old.clock path.now owner.now group.now size) }
+        ensures written { IfOk result (λ prepared. self.new.payload.items ≡ written prepared.step) }
         ensures bounded { OnOk result (IsPayload self.new.payload.items) }
-        ensures range { IfOk result (λ step. InRange step) }
-        ensures room { IfOk result (λ step. HasRoomFor self.new.site.files step) }
-        ensures maximal { IfOk result (λ step. AreMaximal (put_runs step)) }
+        ensures range { IfOk result (λ prepared. InRange prepared.step) }
+        ensures prepared { IfOk result (IsPrepared self.new.site) }
+        ensures maximal { IfOk result (λ prepared. AreMaximal (put_runs prepared.step)) }
         ensures unmoved { IsUnmoved self.old self.new }
     {
         let runs = free_runs(&self.site.space, size)?;
@@ -92,7 +93,10 @@ impl<B: Bank, P: Drop> Engine<B, P> {
         };
         write_payload(&step, &mut self.payload)?;
         self.site.files.reserve()?;
-        Ok(step)
+        Ok(Prepared {
+            step,
+            setting: None,
+        })
     }
 
     /// Stores a file of these bytes. The event's moment is the clock.
@@ -112,16 +116,16 @@ impl<B: Bank, P: Drop> Engine<B, P> {
             return Reply::Refused(rule);
         }
         let (inode, created) = self.site.inode_of(path);
-        let Ok(step) = self.prepare_put(inode, path, owner, group, bytes.len() as u32) else {
+        let Ok(prepared) = self.prepare_put(inode, path, owner, group, bytes.len() as u32) else {
             return Reply::NoMemory;
         };
         if !self.journal.has_room(self.payload.len()) {
             return Reply::JournalFull;
         }
-        let Ok(()) = store(&mut self.bank, runs_of(&step), bytes) else {
+        let Ok(()) = store(&mut self.bank, runs_of(&prepared.step), bytes) else {
             return Reply::BankFault;
         };
-        match self.commit(step) {
+        match self.commit(prepared) {
             Ok(()) => Reply::Stored { inode, created },
             Err(_) => Reply::BankFault,
         }

@@ -12,6 +12,7 @@ ghost use Rattle.engine.specs.StandsFor.{StandsFor, Moves};
 use crate::data::load_all;
 use crate::kept::Engine;
 use crate::payload::write_payload;
+use crate::prepare::Prepared;
 use bank::Bank;
 use records::{Reply, Rule, Step, StepKind};
 use site_text::Bytes;
@@ -52,7 +53,11 @@ impl<B: Bank, P: Drop> Engine<B, P> {
         let Ok(bytes) = load_all(&mut self.bank, runs, buffer) else {
             return Reply::BankFault;
         };
-        match self.commit(step) {
+        let prepared = Prepared {
+            step,
+            setting: None,
+        };
+        match self.commit(prepared) {
             Ok(()) => Reply::Bytes(Bytes::from_vec(bytes)),
             Err(_) => Reply::BankFault,
         }

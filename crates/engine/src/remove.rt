@@ -11,6 +11,7 @@ ghost use Rattle.engine.specs.StandsFor.{StandsFor, Moves};
 
 use crate::kept::Engine;
 use crate::payload::write_payload;
+use crate::prepare::Prepared;
 use bank::Bank;
 use records::{Reply, Rule, Step, StepKind};
 
@@ -42,7 +43,11 @@ impl<B: Bank, P: Drop> Engine<B, P> {
         if !self.journal.has_room(self.payload.len()) {
             return Reply::JournalFull;
         }
-        match self.commit(step) {
+        let prepared = Prepared {
+            step,
+            setting: None,
+        };
+        match self.commit(prepared) {
             Ok(()) => Reply::Done(inode),
             Err(_) => Reply::BankFault,
         }

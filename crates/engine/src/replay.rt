@@ -1,83 +1,87 @@
 //! The steps of a journal, made again.
 
-ghost use Rattle.std.specs.Prelude.{◌≡◌, ◌+◌, ◌<◌, ◌≤◌, IfOk, IfErr, OnOk, All};
+ghost use Rattle.std.specs.Prelude.{◌≡◌, ◌+◌, ◌<◌, ◌≤◌, IfOk, IfErr, IfSome, All};
 ghost use Rattle.journal.specs.Records.{IsPayload};
+ghost use Rattle.records.specs.Written.{InRange};
+ghost use Rattle.configuration.specs.Readings.{no_texts};
 ghost use Rattle.site_history.specs.Site.{Fields, first_fields};
 ghost use Rattle.engine.specs.Replays.{IsRead, Replays, TellsPayloads};
+ghost use Rattle.engine.specs.Room.{IsPrepared};
 ghost use Rattle.engine.specs.StandsFor.{Keeps};
 
 use crate::engine::ShutCause;
 use crate::files::Files;
 use crate::kept::SiteFiles;
-use cache_space::CacheSpace;
-use records::{Step, StepRefusal, decode_step};
+use crate::prepare::{Prepared, Setting};
+use configuration::ConfigurationError;
+use records::{SiteTexts, StepRefusal, decode_step};
 use site_text::Bytes;
 use std::alloc::{AllocError, Global};
-
-/// How many blocks the cache has at first: 64 MiB.
-const FIRST_BLOCKS: u32 = 16_384;
 
 /// The bytes of a record before its payload.
 const HEAD: u64 = 5;
 
-// The files of a site that has none.
-fn no_files(alloc: Global) -> Result<SiteFiles, AllocError>
-    ensures { IfOk result (λ site. Keeps site first_fields) }
+// No text.
+fn empty_texts(alloc: Global) -> SiteTexts
+    ensures { result ≡ no_texts }
 {
-    Ok(SiteFiles {
-        files: Files::new(alloc),
-        next_inode: 1,
-        moment: 0,
-        space: CacheSpace::new(alloc, FIRST_BLOCKS)?,
-    })
-}
-
-impl SiteFiles {
-    /// Makes room for a further file.
-    pub fn reserve(&mut self) -> Result<(), AllocError>
-        ensures keeps { (fields : Fields) → Keeps self.old fields → Keeps self.new fields }
-        ensures room { OnOk result (0 < self.new.files.room) }
-    {
-        self.files.reserve()
+    SiteTexts {
+        site: Bytes::new(alloc),
+        archiver: Bytes::new(alloc),
+        stager: Bytes::new(alloc),
+        releaser: Bytes::new(alloc),
+        recycler: Bytes::new(alloc),
     }
 }
 
-// The step that a payload is the written form of, if it is one that may come next.
-fn next_step(alloc: Global, site: &SiteFiles, payload: &[u8]) -> Result<Option<Step>, AllocError>
-    ensures { (fields : Fields) → Keeps site.now fields → IfOk result (IsRead fields payload.now) }
+// The site of no texts, which has no file.
+fn first_site(alloc: Global) -> Result<SiteFiles, AllocError>
+    ensures { IfOk result (λ site. Keeps site first_fields) }
+{
+    match Setting::new(alloc, &empty_texts(alloc)) {
+        Ok(setting) => Ok(SiteFiles {
+            files: Files::new(alloc),
+            next_inode: 1,
+            moment: 0,
+            configuration: setting.configuration,
+            space: setting.space,
+        }),
+        Err(ConfigurationError::Refused(_)) => unreachable!(),
+        Err(ConfigurationError::NoMemory) => Err(AllocError),
+    }
+}
+
+// Prepares the step that a payload is the written form of, if it is one that may come next. The site keeps what it kept.
+fn next_step(
+    alloc: Global,
+    site: &mut SiteFiles,
+    payload: &[u8],
+) -> Result<Option<Prepared>, AllocError>
+    ensures read { (fields : Fields) → Keeps site.old fields → IfOk result (IsRead fields payload.now) }
+    ensures prepared { IfOk result (λ read. IfSome read (λ prepared. InRange prepared.step × IsPrepared site.new prepared)) }
+    ensures keeps { (fields : Fields) → Keeps site.old fields → Keeps site.new fields }
 {
     match decode_step(alloc, payload) {
-        Ok(step) => {
-            if site.is_legal(&step) {
-                Ok(Some(step))
-            } else {
-                Ok(None)
-            }
-        }
+        Ok(step) => site.prepare(alloc, step),
         Err(StepRefusal::NoMemory) => Err(AllocError),
         Err(_) => Ok(None),
     }
 }
 
-/// The files that the steps of these payloads leave, from a site that has none on. The first payload of no step that may come
+/// The files that the steps of these payloads leave, from the site of no texts on. The first payload of no step that may come
 /// is told by its place in a journal.
 pub fn replay(alloc: Global, payloads: &[Bytes]) -> Result<SiteFiles, ShutCause>
     requires { All IsPayload payloads.now }
     ensures site { IfOk result (λ site. Replays site payloads.now) }
     ensures refusal { IfErr result (TellsPayloads payloads.now) }
 {
-    let Ok(mut site) = no_files(alloc) else {
+    let Ok(mut site) = first_site(alloc) else {
         return Err(ShutCause::NoMemory);
     };
     let mut place: u64 = 0;
     for payload in payloads {
-        match next_step(alloc, &site, payload.as_slice()) {
-            Ok(Some(step)) => {
-                if site.reserve().is_err() {
-                    return Err(ShutCause::NoMemory);
-                }
-                site.apply(step);
-            }
+        match next_step(alloc, &mut site, payload.as_slice()) {
+            Ok(Some(prepared)) => site.apply(prepared),
             Ok(None) => return Err(ShutCause::BadJournal(place)),
             Err(_) => return Err(ShutCause::NoMemory),
         }

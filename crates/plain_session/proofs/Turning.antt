@@ -6,7 +6,7 @@ use Rattle.records.specs.declared.event.Event.{Event}
 use Rattle.records.specs.declared.file.FileRec.{FileRec}
 use Rattle.records.specs.declared.reply.Reply.TheVariants.{JournalFull}
 use Rattle.records.specs.declared.step.StepKind.{StepKind}
-use Rattle.records.specs.declared.step.StepKind.TheVariants.{Put}
+use Rattle.records.specs.declared.step.StepKind.TheVariants.{Configured, Put}
 use Rattle.records.specs.Written.{written, InRange}
 use Rattle.site_history.specs.Site.{Site, file_at}
 use Rattle.site_history.specs.Steps.{HistoryStep, effect, IsLegal}
@@ -32,6 +32,7 @@ counts_on count site orderly few path (Some file) e fits = omega (arith, few, (f
 -- a step that may come can be made
 can_make : (count : ℕ) (site : Site) (orderly : IsOrderly count site) (few : count + 1 < 2 ^ 64) (moment : ℕ) (kind : StepKind) → IsLegal site.fields (record { moment = moment; kind = kind }) → CanMake site.fields kind
 can_make count site orderly few moment (Put inode path owner group size runs) legal = counts_on count site orderly few path (file_at path site.fields.files) refl legal.2.fits
+can_make count site orderly few moment (Configured texts) legal = legal.2.within
 can_make count site orderly few moment _ legal = tt
 
 -- a step that may come, for which the journal has room, if there is one

@@ -1,3 +1,4 @@
+pub mod CommandFiles
 pub mod Site
 pub mod World
 pub mod Stage

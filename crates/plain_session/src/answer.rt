@@ -3,15 +3,18 @@
 ghost use Rattle.std.specs.Prelude.{◌≡◌, ◌≤◌, IfOk, min, length, take};
 ghost use Rattle.std.specs.Option.{option_copied};
 ghost use Rattle.site_history.specs.Site.{file_at, bytes_of};
-ghost use Rattle.site_history.specs.Answers.{Answer, refused, bare_step, put_answer, read_answer_of, remove_answer_of, answer_to};
+ghost use Rattle.site_history.specs.Answers.{Answer, refused, bare_step, put_answer, read_answer_of, remove_answer_of, conf_refused, configure_refusal, configure_answer, answer_to};
 ghost use Rattle.plain_session.specs.Site.{fields_of, site_of};
 
+use crate::command_files::plain_refusal;
 use crate::contents::bytes_of;
+use crate::copies::copy_texts;
 use crate::files::file_at;
 use crate::put::{inode_for, put_made};
 use crate::rule::put_rule;
 use crate::site::{PlainAnswer, PlainBytes, PlainSite, PlainStep};
-use records::{Event, FileRec, LineRefusal, Reply, Rule, Step, StepKind};
+use configuration::{FileRefusal, are_within};
+use records::{Event, FileRec, LineRefusal, Reply, Rule, SiteTexts, Step, StepKind};
 use site_text::Bytes;
 use std::alloc::{AllocError, Global};
 
@@ -107,6 +110,56 @@ fn remove_answer_of(alloc: Global, file: Option<&FileRec>, moment: u64) -> Plain
     }
 }
 
+// A command file that is wrong is told by its first wrong line.
+fn conf_refused(refusal: FileRefusal) -> Reply
+    ensures { result ≡ conf_refused refusal }
+{
+    Reply::ConfRefused {
+        file: refusal.file,
+        line: refusal.line,
+        fault: refusal.fault,
+    }
+}
+
+// Why a site is not configured by these texts.
+fn configure_refusal(
+    alloc: Global,
+    site: &PlainSite,
+    texts: &SiteTexts,
+) -> Result<Option<Reply>, AllocError>
+    ensures { IfOk result (λ reply. reply ≡ configure_refusal (fields_of site.now) texts.now) }
+{
+    if !site.files.is_empty() {
+        return Ok(Some(Reply::Refused(Rule::Running)));
+    }
+    if !are_within(texts) {
+        return Ok(Some(Reply::Refused(Rule::TooLarge)));
+    }
+    match plain_refusal(alloc, texts)? {
+        Some(refusal) => Ok(Some(conf_refused(refusal))),
+        None => Ok(None),
+    }
+}
+
+// The answer to a configuration by these texts.
+fn configure_answer(
+    alloc: Global,
+    site: &PlainSite,
+    moment: u64,
+    texts: &SiteTexts,
+) -> Result<PlainAnswer, AllocError>
+    ensures { IfOk result (λ answer. answer ≡ configure_answer (fields_of site.now) moment texts.now) }
+{
+    if let Some(reply) = configure_refusal(alloc, site, texts)? {
+        return Ok(without_step(reply));
+    }
+    let texts = copy_texts(texts)?;
+    Ok(PlainAnswer {
+        reply: Reply::Done(0),
+        step: Some(bare_step(alloc, moment, StepKind::Configured(texts))),
+    })
+}
+
 /// What is answered to an event at a moment. An event of a kind that is not served is no command. Err is want of memory.
 pub fn answer_to(
     alloc: Global,
@@ -139,6 +192,7 @@ pub fn answer_to(
             let file = file_at(site.files.as_slice(), path.as_slice());
             Ok(remove_answer_of(alloc, file, moment))
         }
+        Event::Configure { texts } => configure_answer(alloc, site, moment, texts),
         _ => Ok(without_step(Reply::Line(LineRefusal::NotACommand))),
     }
 }

@@ -1,15 +1,26 @@
 //! What a step changes of a site.
 
 ghost use Rattle.std.specs.Prelude.{◌≡◌, OnOk};
-ghost use Rattle.site_history.specs.Steps.{put_effect, accessed_effect, removed_effect, effect};
+ghost use Rattle.configuration.specs.Readings.{AreWithin};
+ghost use Rattle.site_history.specs.Steps.{configured_effect, put_effect, accessed_effect, removed_effect, effect};
 ghost use Rattle.plain_session.specs.Site.{fields_of, site_of, CountsOn, CanMake};
 
 use crate::contents::{with_bytes, without_bytes};
 use crate::files::{all_accessed_by, file_at, with_file, without_file};
 use crate::put::{next_after, stored_file};
 use crate::site::{PlainPut, PlainSite, PlainStep};
-use records::{Step, StepKind};
+use records::{SiteTexts, Step, StepKind};
 use std::alloc::{AllocError, Global};
+
+// The site is configured anew by these texts.
+fn configured_effect(moment: u64, texts: SiteTexts, site: &mut PlainSite)
+    requires { AreWithin texts }
+    ensures fields { fields_of site.new ≡ configured_effect moment texts (fields_of site.old) }
+    ensures contents { site.new.contents.items ≡ site.old.contents.items }
+{
+    site.texts = texts;
+    site.moment = moment;
+}
 
 // A put leaves a new file, or one that is replaced.
 fn put_effect(
@@ -57,6 +68,7 @@ pub fn effect(alloc: Global, made: PlainStep, site: &mut PlainSite) -> Result<()
     let PlainStep { step, bytes } = made;
     let Step { moment, kind } = step;
     match kind {
+        StepKind::Configured(texts) => configured_effect(moment, texts, site),
         StepKind::Put {
             inode,
             path,
@@ -74,17 +86,14 @@ pub fn effect(alloc: Global, made: PlainStep, site: &mut PlainSite) -> Result<()
                 runs,
             };
             put_effect(alloc, moment, put, site)?;
-            with_bytes(&mut site.contents, inode, bytes)
+            with_bytes(&mut site.contents, inode, bytes)?;
         }
-        StepKind::Accessed { inode } => {
-            accessed_effect(moment, inode, site);
-            Ok(())
-        }
+        StepKind::Accessed { inode } => accessed_effect(moment, inode, site),
         StepKind::Removed { inode } => {
             removed_effect(moment, inode, site);
             without_bytes(&mut site.contents, inode);
-            Ok(())
         }
-        _ => Ok(()),
+        _ => {}
     }
+    Ok(())
 }

@@ -2,6 +2,7 @@
 #![tactic(auto)]
 
 mod answer;
+mod command_files;
 mod contents;
 mod copies;
 mod effects;
@@ -16,6 +17,10 @@ mod world;
 pub use lines::plain_output;
 
 #[cfg(test)]
+mod configure_tests;
+#[cfg(test)]
 mod crash_tests;
+#[cfg(test)]
+mod test_texts;
 #[cfg(test)]
 mod tests;

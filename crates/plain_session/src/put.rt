@@ -5,10 +5,11 @@ ghost use Rattle.std.specs.Option.{option_copied};
 ghost use Rattle.records.specs.declared.file.FileRec.{FileRec as Rec};
 ghost use Rattle.site_history.specs.Answers.{put_for, put_made};
 ghost use Rattle.site_history.specs.Steps.{stored_file, inode_for, next_after};
-ghost use Rattle.site_history.specs.Site.{file_at, held_runs};
+ghost use Rattle.site_history.specs.Site.{file_at, held_runs, cache_blocks};
 ghost use Rattle.cache_space.specs.Blocks.{lowest_runs, blocks_for};
 ghost use Rattle.plain_session.specs.Site.{fields_of, CountsOn};
 
+use crate::command_files::plain_blocks;
 use crate::copies::copy_file;
 use crate::files::{file_at, held_runs};
 use crate::site::{PlainPut, PlainSite};
@@ -40,10 +41,11 @@ pub fn next_after(site: &PlainSite, path: &[u8]) -> u32
 
 /// The lowest free blocks for so many bytes; fewer where there are fewer.
 pub fn free_runs(alloc: Global, site: &PlainSite, size: u32) -> Result<List<Run>, AllocError>
-    ensures { IfOk result (λ runs. runs ≡ lowest_runs site.now.blocks (held_runs site.now.files.items) (blocks_for size)) }
+    ensures { IfOk result (λ runs. runs ≡ lowest_runs (cache_blocks (fields_of site.now)) (held_runs site.now.files.items) (blocks_for size)) }
 {
     let held = held_runs(alloc, site.files.as_slice())?;
-    plain_lowest(alloc, site.blocks, held.as_slice(), blocks_needed(size))
+    let blocks = plain_blocks(alloc, &site.texts)?;
+    plain_lowest(alloc, blocks, held.as_slice(), blocks_needed(size))
 }
 
 /// What a put of so many bytes stores: it takes the lowest free blocks.

@@ -1,6 +1,8 @@
 //! A site, kept plainly, and its steps.
 
-use records::{FileRec, Reply, Run, Step};
+ghost use Rattle.configuration.specs.Readings.{AreWithin};
+
+use records::{FileRec, Reply, Run, SiteTexts, Step};
 use site_text::{Bytes, List};
 use std::marker::Model;
 
@@ -28,10 +30,11 @@ pub struct PlainSite {
     pub next_inode: u32,
     /// The moment of the last step, in seconds below 2^40.
     pub moment: u64,
-    /// How many blocks of 4,096 bytes the cache has.
-    pub blocks: u32,
+    /// The command files by which it is configured, each of at most 65,536 bytes.
+    pub texts: SiteTexts,
     /// The bytes of each file.
     pub contents: Vec<PlainBytes>,
+    pub ghost within: { AreWithin texts },
 }
 
 /// What a put stores, without the bytes.

@@ -1,17 +1,26 @@
 //! A run over memory writes what the plain program writes.
 
+use crate::command_files::no_texts;
 use crate::lines::plain_output;
+use crate::test_texts::folder_of;
 use bank::MemoryBank;
-use outside::{LiteralPatterns, MemoryClock, MemoryFolder, MemorySink, MemorySource};
+use outside::{LiteralPatterns, MemoryClock, MemorySink, MemorySource};
+use records::SiteTexts;
 use session::run_lines;
 use site_text::{Bytes, List};
 use std::alloc::Global;
 use std::process::Abort;
 use std::test::Fail;
 
-// Runs a text both ways. The answers are these.
-fn expect(rt: &impl Abort, alloc: Global, text: &[u8], answers: &[u8]) -> Result<(), Fail> {
-    let plain = plain_output(alloc, text)?;
+/// Runs a text both ways, where the command files have these texts. The answers are these.
+pub fn expect_with(
+    rt: &impl Abort,
+    alloc: Global,
+    texts: &SiteTexts,
+    text: &[u8],
+    answers: &[u8],
+) -> Result<(), Fail> {
+    let plain = plain_output(alloc, text, texts)?;
     assert!(rt; plain.as_slice() == answers);
     let bank = MemoryBank::new(alloc, List::new(alloc))?;
     let mut input = MemorySource::new(Bytes::from_slice(alloc, text)?, 7, List::new(alloc));
@@ -20,7 +29,7 @@ fn expect(rt: &impl Abort, alloc: Global, text: &[u8], answers: &[u8]) -> Result
         alloc,
         bank,
         &mut MemoryClock::new(List::new(alloc)),
-        &mut MemoryFolder::new(alloc, List::new(alloc), List::new(alloc)),
+        &mut folder_of(alloc, texts)?,
         LiteralPatterns::new(alloc, List::new(alloc), List::new(alloc)),
         &mut input,
         &mut output,
@@ -29,6 +38,11 @@ fn expect(rt: &impl Abort, alloc: Global, text: &[u8], answers: &[u8]) -> Result
     assert_eq!(rt; outcome.status, 0);
     assert!(rt; output.written() == answers);
     Ok(())
+}
+
+// The same without command files.
+fn expect(rt: &impl Abort, alloc: Global, text: &[u8], answers: &[u8]) -> Result<(), Fail> {
+    expect_with(rt, alloc, &no_texts(alloc), text, answers)
 }
 
 #[test]
@@ -67,7 +81,7 @@ fn a_run_writes_what_the_plain_program_writes(rt: HostRuntime) -> Result<(), Fai
             b"frob\nput /b u\nhead /a x\ncat /a b\nat 1099511627776\n",
             b"refused: not a command\nrefused: bad word 4\nrefused: bad word 3\nrefused: bad word 3\nrefused: bad word 2\n",
         ),
-        (b"configure\n", b"refused: not a command\n"),
+        (b"configure\nconfigure /a\n", b"ok 0\nrefused: bad word 2\n"),
     ];
     for (text, answers) in table {
         expect(&rt, alloc, text, answers)?;

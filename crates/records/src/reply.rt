@@ -1,7 +1,7 @@
 //! What a site answers.
 
 use crate::event::Daemon;
-use site_text::{Bytes, List};
+use site_text::{Bytes, ConfFault, List};
 
 /// The name of a volume in a reply, which takes no memory.
 #[derive(Clone, Copy, Debug)]
@@ -146,7 +146,10 @@ pub struct SummaryRow {
 #[derive(Drop)]
 pub enum Reply {
     /// A file was stored.
-    Stored { inode: u32, created: bool },
+    Stored {
+        inode: u32,
+        created: bool,
+    },
     /// Done; an inode, or 0.
     Done(u32),
     At(u64),
@@ -160,14 +163,23 @@ pub enum Reply {
     /// How many copies were made.
     Made(u32),
     Dropped,
-    Unarchived { inode: u32, copy: u8 },
+    Unarchived {
+        inode: u32,
+        copy: u8,
+    },
     Wanted(u32),
     Released(u32),
     Staged(u32),
     StageFailed(u32),
-    Damaged { inode: u32, copy: u8 },
+    Damaged {
+        inode: u32,
+        copy: u8,
+    },
     Marked(Vsn),
-    Relabelled { vsn: Vsn, label: u64 },
+    Relabelled {
+        vsn: Vsn,
+        label: u64,
+    },
     /// After so many rounds.
     Settled(u32),
     Idle(IdleCause),
@@ -177,8 +189,20 @@ pub enum Reply {
     Queue(List<QueueRow>),
     Summary(SummaryRow),
     Refused(Rule),
-    Claimed { daemon: Daemon, job: u64 },
-    PatternRefused { file: CommandFile, line: u32 },
+    Claimed {
+        daemon: Daemon,
+        job: u64,
+    },
+    /// The first line of a command file that is wrong, from 1, and what is wrong with it.
+    ConfRefused {
+        file: CommandFile,
+        line: u32,
+        fault: ConfFault,
+    },
+    PatternRefused {
+        file: CommandFile,
+        line: u32,
+    },
     JournalFull,
     Line(LineRefusal),
     BankFault,

@@ -11,4 +11,6 @@ fn main(rt: HostRuntime) -> ExitCode {
 }
 
 #[cfg(test)]
+mod configure_tests;
+#[cfg(test)]
 mod tests;

@@ -11,17 +11,17 @@ use std::test::Fail;
 
 /// What is asked of a run, and what it is to leave.
 #[derive(Clone, Copy)]
-struct Case<'a> {
-    text: &'a [u8],
-    budget: u64,
+pub struct Case<'a> {
+    pub text: &'a [u8],
+    pub budget: u64,
     /// The number of the read that fails, or 0.
-    read: u64,
+    pub read: u64,
     /// The number of the write that fails, or 0.
-    write: u64,
-    status: u8,
-    answers: &'a [u8],
+    pub write: u64,
+    pub status: u8,
+    pub answers: &'a [u8],
     /// The steps that each mark counts.
-    steps: &'a [u64],
+    pub steps: &'a [u64],
 }
 
 /// What a run left.
@@ -31,8 +31,8 @@ struct Left {
     marks: List<Mark>,
 }
 
-// A run without a fault.
-fn plain<'a>(text: &'a [u8], answers: &'a [u8], steps: &'a [u64]) -> Case<'a> {
+/// A run without a fault.
+pub fn plain<'a>(text: &'a [u8], answers: &'a [u8], steps: &'a [u64]) -> Case<'a> {
     Case {
         text,
         budget: 10_000,
@@ -44,11 +44,13 @@ fn plain<'a>(text: &'a [u8], answers: &'a [u8], steps: &'a [u64]) -> Case<'a> {
     }
 }
 
-fn one(alloc: Global, number: u64) -> Result<List<u64>, Fail> {
+/// A list of one number.
+pub fn one(alloc: Global, number: u64) -> Result<List<u64>, Fail> {
     Ok(List::from_vec([number].to_vec(alloc)?))
 }
 
-fn fresh(alloc: Global) -> Result<MemoryBank, Fail> {
+/// A fresh store.
+pub fn fresh(alloc: Global) -> Result<MemoryBank, Fail> {
     Ok(MemoryBank::new(alloc, List::new(alloc))?)
 }
 
@@ -58,8 +60,18 @@ fn failing(alloc: Global, area: u32, call: BankCall, number: u64) -> Result<Memo
     Ok(MemoryBank::new(alloc, List::from_vec(fail))?)
 }
 
-// Runs a case over a store, which is handed back with the marks.
-fn run(rt: &impl Abort, alloc: Global, bank: MemoryBank, case: Case<'_>) -> Result<Left, Fail> {
+fn no_files(alloc: Global) -> MemoryFolder {
+    MemoryFolder::new(alloc, List::new(alloc), List::new(alloc))
+}
+
+// Runs a case over a store and a folder. The store is handed back with the marks.
+fn run(
+    rt: &impl Abort,
+    alloc: Global,
+    bank: MemoryBank,
+    folder: &mut MemoryFolder,
+    case: Case<'_>,
+) -> Result<Left, Fail> {
     let text = Bytes::from_slice(alloc, case.text)?;
     let mut input = MemorySource::new(text, 7, one(alloc, case.read)?);
     let mut output = MemorySink::new(alloc, 5, one(alloc, case.write)?);
@@ -67,7 +79,7 @@ fn run(rt: &impl Abort, alloc: Global, bank: MemoryBank, case: Case<'_>) -> Resu
         alloc,
         bank,
         &mut MemoryClock::new(List::new(alloc)),
-        &mut MemoryFolder::new(alloc, List::new(alloc), List::new(alloc)),
+        folder,
         LiteralPatterns::new(alloc, List::new(alloc), List::new(alloc)),
         &mut input,
         &mut output,
@@ -81,14 +93,15 @@ fn run(rt: &impl Abort, alloc: Global, bank: MemoryBank, case: Case<'_>) -> Resu
     })
 }
 
-// Runs a case over a store, looks at its marks, and hands the store back.
-fn expect(
+/// Runs a case over a store and a folder, looks at its marks, and hands the store back.
+pub fn expect_over(
     rt: &impl Abort,
     alloc: Global,
     bank: MemoryBank,
+    folder: &mut MemoryFolder,
     case: Case<'_>,
 ) -> Result<MemoryBank, Fail> {
-    let left = run(rt, alloc, bank, case)?;
+    let left = run(rt, alloc, bank, folder, case)?;
     let marks = left.marks.as_slice();
     assert_eq!(rt; marks.len(), case.steps.len());
     for (mark, steps) in marks.iter().zip(case.steps.iter()) {
@@ -98,6 +111,16 @@ fn expect(
         assert_eq!(rt; mark.answered, marks.len() as u64);
     }
     Ok(left.bank)
+}
+
+// The same over a folder without a file.
+fn expect(
+    rt: &impl Abort,
+    alloc: Global,
+    bank: MemoryBank,
+    case: Case<'_>,
+) -> Result<MemoryBank, Fail> {
+    expect_over(rt, alloc, bank, &mut no_files(alloc), case)
 }
 
 #[test]
@@ -122,7 +145,7 @@ fn other_words_touch_nothing(rt: HostRuntime) -> Result<(), Fail> {
         &words,
         fresh(alloc)?,
         &mut MemoryClock::new(List::new(alloc)),
-        &mut MemoryFolder::new(alloc, List::new(alloc), List::new(alloc)),
+        &mut no_files(alloc),
         LiteralPatterns::new(alloc, List::new(alloc), List::new(alloc)),
         &mut input,
         &mut output,
@@ -138,7 +161,7 @@ const LINES: &[u8] =
     b"put /a u g hi\r\n# skipped\n \t\nput /a u g again\nput a u g x\nput //b u g x\nput /./b u g x\nput /b/.. u g x\nput /b/ u g x\nput /\x01 u g x\nput /\xff u g x\nput /b u/v g x\nput /b u g%h x\nput /b u\nfrob\nrm\nrm /none\nconfigure\n put \t/b u g  two \n";
 
 const ANSWERS: &[u8] =
-    b"ok 1\nok 1\nrefused: bad path\nrefused: bad path\nrefused: bad path\nrefused: bad path\nrefused: bad path\nrefused: bad path\nrefused: bad path\nrefused: bad attribute\nrefused: bad attribute\nrefused: bad word 4\nrefused: not a command\nrefused: bad word 2\nrefused: no file\nrefused: not a command\nok 2\n";
+    b"ok 1\nok 1\nrefused: bad path\nrefused: bad path\nrefused: bad path\nrefused: bad path\nrefused: bad path\nrefused: bad path\nrefused: bad path\nrefused: bad attribute\nrefused: bad attribute\nrefused: bad word 4\nrefused: not a command\nrefused: bad word 2\nrefused: no file\nrefused: running\nok 2\n";
 
 #[test]
 fn each_line_has_its_answer(rt: HostRuntime) -> Result<(), Fail> {
@@ -301,7 +324,7 @@ fn a_fault_of_the_store_is_answered_and_the_next_put_goes_on(rt: HostRuntime) ->
     Ok(())
 }
 
-const CHANGES: &[u8] = b"put /a u g hi\nput /a u g again\ncat /a\nrm /a\n";
+const CHANGES: &[u8] = b"configure\nput /a u g hi\nput /a u g again\ncat /a\nrm /a\n";
 
 // The steps of a store that crashed.
 fn steps_after(rt: &impl Abort, alloc: Global, bank: MemoryBank) -> Result<u64, Fail> {
@@ -309,6 +332,7 @@ fn steps_after(rt: &impl Abort, alloc: Global, bank: MemoryBank) -> Result<u64, 
         rt,
         alloc,
         bank,
+        &mut no_files(alloc),
         plain(b"rm /none\n", b"refused: no file\n", &[]),
     )?;
     assert_eq!(rt; left.marks.len(), 1);
@@ -333,10 +357,11 @@ fn a_crash_leaves_each_acknowledged_step(rt: HostRuntime) -> Result<(), Fail> {
         &rt,
         alloc,
         fresh(alloc)?,
+        &mut no_files(alloc),
         plain(
             CHANGES,
-            b"ok 1\nok 1\nbytes 5\nagain\nok 1\n",
-            &[1, 2, 3, 4],
+            b"ok 0\nok 1\nok 1\nbytes 5\nagain\nok 1\n",
+            &[1, 2, 3, 4, 5],
         ),
     )?;
     for moment in 0..=left.bank.moment() {

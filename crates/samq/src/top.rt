@@ -1,6 +1,6 @@
 //! The top call.
 
-ghost use Rattle.std.specs.Prelude.{◌≡◌, ◌≢◌, ℕ, ◌↔◌, [], false, true, map, string_bytes, Bool, IsTrue, List as Seq};
+ghost use Rattle.std.specs.Prelude.{◌≡◌, ◌≢◌, ◌≤◌, ℕ, ◌↔◌, [], false, true, map, string_bytes, Bool, IsTrue, List as Seq};
 ghost use Rattle.samq.specs.Words.{is_run};
 ghost use Rattle.site_history.specs.Steps.{HistoryStep};
 ghost use Rattle.site_history.specs.Images.{IsSettled};
@@ -26,8 +26,9 @@ pub fn is_form(words: &[String]) -> bool
     }
 }
 
-/// Answers the lines of an input over a store, where the words are `run DIR`; DIR is not read here. At any other words the
-/// status is 1, and nothing is read or written. The bank and the patterns are handed back at every status.
+/// Answers the lines of an input over a store, where the words are `run DIR`; DIR is not read here. The command files are those of
+/// `folder`, which is read at each `configure`. At any other words the status is 1, and nothing is read or written. The bank and the
+/// patterns are handed back at every status.
 pub fn samq<B: Bank, C: Clock, F: Folder, P: Patterns, I: Source, O: Sink>(
     alloc: Global,
     words: &[String],
@@ -44,21 +45,22 @@ pub fn samq<B: Bank, C: Clock, F: Folder, P: Patterns, I: Source, O: Sink>(
     ensures outcome { is_run (map string_bytes words.now) ≡ true → (told : Bool) → (IsTrue told → IsTrue B.tells) → (before : Seq HistoryStep)
         → (IsTrue told → IsSettled journal_bytes (B.view bank) before)
         → IsOutcome told 4294967296 (B.view bank) (B.view result.bank)
-        (seen I.left I.faults O.written O.faults B.faults B.view input.old output.old bank)
-        (seen I.left I.faults O.written O.faults B.faults B.view input.new output.new result.bank)
+        (seen I.left I.faults O.written O.faults F.texts F.faults B.faults B.view input.old output.old folder.old bank)
+        (seen I.left I.faults O.written O.faults F.texts F.faults B.faults B.view input.new output.new folder.new result.bank)
         before result.marks result.status }
     // The causes of the status, over any store, and what the statuses 0, 2 and 7 mean.
     ensures status { is_run (map string_bytes words.now) ≡ true → HasStatus B.tells ((B.view bank).content 0) 4294967296
-        (seen I.left I.faults O.written O.faults B.faults B.view input.old output.old bank)
-        (seen I.left I.faults O.written O.faults B.faults B.view input.new output.new result.bank)
+        (seen I.left I.faults O.written O.faults F.texts F.faults B.faults B.view input.old output.old folder.old bank)
+        (seen I.left I.faults O.written O.faults F.texts F.faults B.faults B.view input.new output.new folder.new result.bank)
         result.status }
     // The journal of a settled store is never bad.
     ensures good { IsTrue B.tells → (before : Seq HistoryStep) → IsSettled journal_bytes (B.view bank) before → result.status ≢ 2 }
     ensures untouched { is_run (map string_bytes words.now) ≡ false
-        → (input.new ≡ input.old) × (output.new ≡ output.old) × (result.bank ≡ bank) × (result.marks ≡ []) }
+        → (input.new ≡ input.old) × (output.new ≡ output.old) × (folder.new ≡ folder.old) × (result.bank ≡ bank) × (result.marks ≡ []) }
     ensures patterns { result.patterns ≡ patterns }
     ensures clock { clock.new ≡ clock.old }
-    ensures folder { folder.new ≡ folder.old }
+    ensures folder { F.texts folder.new ≡ F.texts folder.old }
+    ensures folder_later { F.faults folder.old ≤ F.faults folder.new }
     ensures source_beside { I.beside input.new ≡ I.beside input.old }
     ensures sink_beside { O.beside output.new ≡ O.beside output.old }
 {

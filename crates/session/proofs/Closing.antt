@@ -4,6 +4,7 @@ use Rattle.std.proofs.lemmas.List.{append-nil}
 use Rattle.std.proofs.KnownBytes.{Appends-nil, Appends-trans}
 use Rattle.std.specs.Io.KnownBytes.{Appends}
 use Rattle.site_text.specs.Causes.{AreCounted}
+use Rattle.outside.specs.declared.folder.NamedText.{NamedText}
 use Rattle.bank.specs.Content.{Image}
 use Rattle.bank.specs.View.{View, IsImage, IsSound}
 use Rattle.desk.specs.Texts.{text_of}
@@ -12,8 +13,8 @@ use Rattle.input.proofs.Steps.{stays, then_moved}
 use Rattle.site_history.specs.Worlds.{World}
 use Rattle.site_history.specs.Images.{ReadsAs}
 use Rattle.session.specs.Asking.{Request}
-use Rattle.session.specs.Rounds.{Stage, Round, IsRoundOf, IsRun, stage_after, asked, output, AreInTime, mark_of, marks_from, cause_of, first_of, status_from, faults_of, faults_in, calm}
-use Rattle.session.specs.Machine.{AreTold, machine_run}
+use Rattle.session.specs.Rounds.{Stage, Round, IsRoundOf, IsRun, stage_after, asked, output, AreInTime, mark_of, marks_from, cause_of, first_of, status_from, faults_of, faults_in, folder_faults_of, folder_faults_in, calm}
+use Rattle.session.specs.Machine.{AreTold, machine_run, texts_told}
 use Rattle.session.specs.Kept.{AreKept}
 use Rattle.session.specs.Session.{Outside, IsSession, Ends, status_of}
 use Rattle.session.specs.Hearing.{Takes, Stops}
@@ -22,7 +23,7 @@ use Rattle.session.specs.Ran.{Ran}
 use Rattle.session.specs.declared.kept.Mark.{Mark}
 use Rattle.session.specs.declared.kept.Ending.{Ending}
 use Rattle.session.specs.declared.kept.Ending.TheVariants.{Ended, Closed, SourceFault, SinkFault, OverBudget, NoMemory}
-use Rattle.session.proofs.RoundLaws.{run_more, after_more, asked_more, output_more, marks_more, marks-length, in_time_more, status_then, status_more, faults_more, counted_more, first_none, go_on_more}
+use Rattle.session.proofs.RoundLaws.{run_more, after_more, asked_more, output_more, marks_more, marks-length, in_time_more, status_then, status_more, faults_more, folder_faults_more, counted_more, first_none, go_on_more}
 use Rattle.session.proofs.MachineLaws.{fixed_run}
 use Rattle.session.proofs.KeptLaws.{kept_begun, kept_more}
 
@@ -52,7 +53,7 @@ module _ (Asks : Items Request) (Stands : World → Type 0) (tells : Bool) (size
         let nil = append-nil r.rounds in
         let asks : asked (r.rounds ++ []) ++ [] ≡ Asks all_moved.more reader'.ended =
         append-nil (asked (r.rounds ++ [])) ∙ ap asked nil ∙ sym (ap (λ (l : List ℕ). Asks l reader'.ended) same ∙ all_asked drained none again) in
-        let run : IsRun size tells first (r.rounds ++ []) = subst (λ (l : List Round). IsRun size tells first l) (sym nil) r.run in
+        let run : IsRun size tells old.folder first (r.rounds ++ []) = subst (λ (l : List Round). IsRun size tells old.folder first l) (sym nil) r.run in
         record {
           read = all_moved.more;
           beyond = beyond;
@@ -74,11 +75,13 @@ module _ (Asks : Items Request) (Stands : World → Type 0) (tells : Bool) (size
           in_time = λ t. subst (λ (l : List Round). AreInTime old.moment l now.moment) (sym nil) (r.in_time t);
           kept = λ t. subst (λ (l : List Round). AreKept size store old.moment first.world l) (sym nil) (r.kept t);
           counted = subst (λ (l : List Round). AreCounted old.bank_faults (faults_in l) now.bank_faults) (sym nil) r.counted;
+          folder_stays = r.folder_stays;
+          folder_counted = subst (λ (l : List Round). AreCounted old.folder_faults (folder_faults_in l) now.folder_faults) (sym nil) r.folder_counted;
           ending = ending;
           ends = ends;
           first_cause = ap (λ (n : ℕ). first_of n (status_of ending)) r.status_now ∙ status_then r.rounds (status_of ending) ∙ ap (λ (l : List Round). status_from l (status_of ending)) (sym nil);
-          fixed = subst (λ (l : List Request). AreTold tells (calm (r.rounds ++ [])) (machine_run size first (take (length (calm (r.rounds ++ []))) l))) asks
-              (fixed_run size tells first (r.rounds ++ []) [] rests run);
+          fixed = subst (λ (l : List Request). AreTold tells (calm old.folder (r.rounds ++ [])) (machine_run size (texts_told old.folder) first (take (length (calm old.folder (r.rounds ++ []))) l))) asks
+              (fixed_run size tells old.folder first (r.rounds ++ []) [] rests run);
         }
 
   -- the reader stopped
@@ -117,19 +120,35 @@ module _ (Asks : Items Request) (Stands : World → Type 0) (tells : Bool) (size
     in_time = r.in_time;
     kept = r.kept;
     counted = r.counted;
+    folder_stays = r.folder_stays;
+    folder_counted = r.folder_counted;
     status_now = r.status_now;
   }
 
   -- a request was read, and its round was made
   module _ (left' : Option (List ℕ)) (source_faults : ℕ) (reader' : Reading) (request : Request) (t : Takes Asks now.left left' reader reader' (request ∷ []))
-      (Stands' : World → Type 0) (store' : View) (written' : Option (List ℕ)) (sink_faults bank_faults : ℕ) (marks' : List Mark) (status' : ℕ) (end : Option Ending) (round : Round)
-      (size' : ℕ) (same_size : size' ≡ size) (same_moment : now.moment ≡ store.moment)
-      (made : IsRound Stands' tells size' store store' (stage_after first r.rounds) request now.written written' now.sink_faults sink_faults now.bank_faults bank_faults marks marks' status status' end round) where
-    ir : IsRound Stands' tells size store store' (stage_after first r.rounds) request now.written written' now.sink_faults sink_faults now.bank_faults bank_faults marks marks' status status' end round
-    ir = subst (λ (n : ℕ). IsRound Stands' tells n store store' (stage_after first r.rounds) request now.written written' now.sink_faults sink_faults now.bank_faults bank_faults marks marks' status status' end round) same_size made
+      (Stands' : World → Type 0) (store' : View) (written' : Option (List ℕ)) (sink_faults : ℕ) (folder' : Option (List NamedText)) (folder_faults bank_faults : ℕ) (marks' : List Mark) (status' : ℕ) (end : Option Ending)
+      (round : Round) (size' : ℕ) (same_size : size' ≡ size) (same_moment : now.moment ≡ store.moment) (same_folder : folder' ≡ now.folder)
+      (made : IsRound Stands' tells size' now.folder store store' (stage_after first r.rounds) request now.written written' now.sink_faults sink_faults now.folder_faults folder_faults now.bank_faults bank_faults
+      marks marks' status status' end round) where
+    abbrev Made : ℕ → Type 0
+    Made n = IsRound Stands' tells n now.folder store store' (stage_after first r.rounds) request now.written written' now.sink_faults sink_faults now.folder_faults folder_faults now.bank_faults bank_faults
+        marks marks' status status' end round
+
+    ir : Made size
+    ir = subst Made same_size made
 
     abbrev new : Outside
-    new = record { left = left'; source_faults = source_faults; written = written'; sink_faults = sink_faults; bank_faults = bank_faults; moment = store'.moment }
+    new = record {
+      left = left';
+      source_faults = source_faults;
+      written = written';
+      sink_faults = sink_faults;
+      folder = folder';
+      folder_faults = folder_faults;
+      bank_faults = bank_faults;
+      moment = store'.moment;
+    }
 
     moved_then : Moved old.left left' start reader' (r.used ++ t.used) []
     moved_then = then_moved old.left now.left left' start reader reader' r.used t.used [] r.moved t.moved
@@ -145,8 +164,12 @@ module _ (Asks : Items Request) (Stands : World → Type 0) (tells : Bool) (size
     whole_then : reader'.ended ≡ true → Asks (r.used ++ t.used) true ≡ asked (r.rounds ++ round ∷ [])
     whole_then e = r.opened t.was_open t.used true ∙ ap (λ (l : List Request). asked r.rounds ++ l) (t.last e) ∙ sym asked_then
 
-    run_then : IsRun size tells first (r.rounds ++ round ∷ [])
-    run_then = run_more size tells first r.rounds round r.run (subst (λ (x : Request). IsRoundOf size tells (stage_after first r.rounds) x round.reply round.after) (sym ir.same) ir.turn)
+    turn_then : IsRoundOf size tells old.folder (stage_after first r.rounds) round.asked round.reply round.after
+    turn_then = subst (λ (x : Request). IsRoundOf size tells old.folder (stage_after first r.rounds) x round.reply round.after) (sym ir.same)
+        (subst (λ (f : Option (List NamedText)). IsRoundOf size tells f (stage_after first r.rounds) request round.reply round.after) r.folder_stays ir.turn)
+
+    run_then : IsRun size tells old.folder first (r.rounds ++ round ∷ [])
+    run_then = run_more size tells old.folder first r.rounds round r.run turn_then
 
     stands_then : Stands' (stage_after first (r.rounds ++ round ∷ [])).world
     stands_then = subst Stands' (ap (λ (s : Stage). s.world) (sym (after_more first r.rounds round))) ir.stands
@@ -163,6 +186,10 @@ module _ (Asks : Items Request) (Stands : World → Type 0) (tells : Bool) (size
 
     counted_then : AreCounted old.bank_faults (faults_in (r.rounds ++ round ∷ [])) bank_faults
     counted_then = subst (λ (n : ℕ). AreCounted old.bank_faults n bank_faults) (sym (faults_more r.rounds round)) (counted_more old.bank_faults (faults_in r.rounds) (faults_of round.reply) now.bank_faults bank_faults r.counted ir.counted)
+
+    folder_counted_then : AreCounted old.folder_faults (folder_faults_in (r.rounds ++ round ∷ [])) folder_faults
+    folder_counted_then = subst (λ (n : ℕ). AreCounted old.folder_faults n folder_faults) (sym (folder_faults_more r.rounds round))
+        (counted_more old.folder_faults (folder_faults_in r.rounds) (folder_faults_of round.reply) now.folder_faults folder_faults r.folder_counted ir.folder_counted)
 
     status_later : (later : ℕ) → first_of status' later ≡ status_from (r.rounds ++ round ∷ []) later
     status_later later = ap (λ (n : ℕ). first_of n later) (ir.first_cause ∙ ap (λ (n : ℕ). first_of n (cause_of round.reply)) r.status_now ∙ status_then r.rounds (cause_of round.reply)
@@ -195,6 +222,8 @@ module _ (Asks : Items Request) (Stands : World → Type 0) (tells : Bool) (size
       in_time = in_time_then;
       kept = kept_then;
       counted = counted_then;
+      folder_stays = same_folder ∙ r.folder_stays;
+      folder_counted = folder_counted_then;
       status_now = sym (first_none status') ∙ status_later 0;
     }
 
@@ -220,7 +249,7 @@ module _ (Asks : Items Request) (Stands : World → Type 0) (tells : Bool) (size
         let same : moved_then.more ≡ (r.used ++ t.used) ++ reader'.held = ap (λ (l : List ℕ). l ++ moved_then.more) (sym fresh) ∙ moved_then.split in
         let asks : asked (told ++ untold) ++ unasked ≡ Asks moved_then.more reader'.ended =
         ap (λ (l : List Round). asked l ++ unasked) all ∙ sym (ap (λ (l : List ℕ). Asks l reader'.ended) same ∙ asks_round) in
-        let run : IsRun size tells first (told ++ untold) = subst (λ (l : List Round). IsRun size tells first l) (sym all) run_then in
+        let run : IsRun size tells old.folder first (told ++ untold) = subst (λ (l : List Round). IsRun size tells old.folder first l) (sym all) run_then in
         record {
           read = moved_then.more;
           beyond = [];
@@ -242,10 +271,13 @@ module _ (Asks : Items Request) (Stands : World → Type 0) (tells : Bool) (size
           in_time = λ t. subst (λ (l : List Round). AreInTime old.moment l store'.moment) (sym all) (in_time_then t);
           kept = λ t. subst (λ (l : List Round). AreKept size store' old.moment first.world l) (sym all) (kept_then t);
           counted = subst (λ (l : List Round). AreCounted old.bank_faults (faults_in l) bank_faults) (sym all) counted_then;
+          folder_stays = same_folder ∙ r.folder_stays;
+          folder_counted = subst (λ (l : List Round). AreCounted old.folder_faults (folder_faults_in l) folder_faults) (sym all) folder_counted_then;
           ending = ending;
           ends = ends;
           first_cause = status_later (status_of ending) ∙ ap (λ (l : List Round). status_from l (status_of ending)) (sym all);
-          fixed = subst (λ (l : List Request). AreTold tells (calm (told ++ untold)) (machine_run size first (take (length (calm (told ++ untold))) l))) asks (fixed_run size tells first (told ++ untold) unasked rests run);
+          fixed = subst (λ (l : List Request). AreTold tells (calm old.folder (told ++ untold)) (machine_run size (texts_told old.folder) first (take (length (calm old.folder (told ++ untold))) l))) asks
+              (fixed_run size tells old.folder first (told ++ untold) unasked rests run);
         }
 
     pub ends_at : start.held ≡ [] → start.ended ≡ false → old.sink_faults ≤ now.sink_faults → (ending : Ending)
@@ -287,5 +319,7 @@ begun Asks Stands tells size store now start first moment marks status none_mark
   in_time = λ t. omega arith;
   kept = λ t. subst (λ (m : ℕ). AreKept size store m first.world []) (sym same_moment) (kept_begun size store first.world (sound t) (images t));
   counted = omega arith;
+  folder_stays = refl;
+  folder_counted = omega arith;
   status_now = no_cause;
 }

@@ -1,5 +1,6 @@
 -- From the session of an engine to the session of a call.
 use Rattle.std.proofs.Common.{◌≡◌, inl, inr, ℕ, ◌≤◌, List, ◌++◌, refl, sym, ◌∙◌, subst, arith, Bool, Option, IsTrue}
+use Rattle.outside.specs.declared.folder.NamedText.{NamedText}
 use Rattle.bank.specs.Content.{Content}
 use Rattle.bank.specs.View.{View, IsSound, OnlyRead}
 use Rattle.input.specs.Reading.{Items}
@@ -58,6 +59,8 @@ module _ (Asks : Items Request) (Stands Stands' : World → Type 0) (tells : Boo
     in_time = s.in_time;
     kept = s.kept;
     counted = omega (arith, s.counted, fewer);
+    folder_stays = s.folder_stays;
+    folder_counted = s.folder_counted;
     ending = s.ending;
     ends = ends_still s.ending s.ends;
     first_cause = s.first_cause;
@@ -69,7 +72,7 @@ all_held : (size : ℕ) (store : View) (tells : Bool) (old new : Outside) (first
     → (s : IsSession asks_of Stands tells size budget store old new first marks status) → IsTrue tells → AreHeld size store (stage_after first (s.told ++ s.untold)).world.history marks
 all_held size store tells old new first marks Stands budget status s t =
     subst (λ (ms : List Mark). AreHeld size store (stage_after first (s.told ++ s.untold)).world.history ms) (sym s.marks_told)
-    (marks_held size store old.moment 0 first s.told s.untold (s.kept t) (subst (λ (b : Bool). IsRun size b first (s.told ++ s.untold)) t s.run))
+    (marks_held size old.folder store old.moment 0 first s.told s.untold (s.kept t) (subst (λ (b : Bool). IsRun size b old.folder first (s.told ++ s.untold)) t s.run))
 
 -- An engine that stands for a world leaves its store settled for it.
 leaves_settled : {B P : Type 0} (told : Bool) (view : B → View) (engine : Engine B P) (size : ℕ) (w : World) → engine.journal.size ≡ size → (IsTrue told → IsSound (view engine.bank)) → StandsFor told view engine w
@@ -79,16 +82,37 @@ leaves_settled told view engine size w same sound stands t =
 
 -- What a call hands back after a session.
 module _ {B P : Type 0} (told : Bool) (faults : B → ℕ) (view : B → View) (left left' : Option (List ℕ)) (source_faults source_faults' : ℕ) (written written' : Option (List ℕ)) (sink_faults sink_faults' : ℕ)
-    (bank : B) (opening closing : Engine B P) (before : List HistoryStep) where
+    (texts texts' : Option (List NamedText)) (folder_faults folder_faults' : ℕ) (bank : B) (opening closing : Engine B P) (before : List HistoryStep) where
   -- what is told before the call, once the store is open, and at the end
+  abbrev seen_at : B → Outside
+  seen_at from = record {
+    left = left;
+    source_faults = source_faults;
+    written = written;
+    sink_faults = sink_faults;
+    folder = texts;
+    folder_faults = folder_faults;
+    bank_faults = faults from;
+    moment = (view from).moment;
+  }
+
   abbrev seen_before : Outside
-  seen_before = record { left = left; source_faults = source_faults; written = written; sink_faults = sink_faults; bank_faults = faults bank; moment = (view bank).moment }
+  seen_before = seen_at bank
 
   abbrev seen_open : Outside
-  seen_open = record { left = left; source_faults = source_faults; written = written; sink_faults = sink_faults; bank_faults = faults opening.bank; moment = (view opening.bank).moment }
+  seen_open = seen_at opening.bank
 
   abbrev seen_after : B → Outside
-  seen_after to = record { left = left'; source_faults = source_faults'; written = written'; sink_faults = sink_faults'; bank_faults = faults to; moment = (view to).moment }
+  seen_after to = record {
+    left = left';
+    source_faults = source_faults';
+    written = written';
+    sink_faults = sink_faults';
+    folder = texts';
+    folder_faults = folder_faults';
+    bank_faults = faults to;
+    moment = (view to).moment;
+  }
 
   answered : (found : List HistoryStep) (budget : ℕ) (marks : List Mark) (status : ℕ) → IsFound told before found → (IsTrue told → OnlyRead (view bank) (view opening.bank))
       → (IsTrue told → IsSettled journal_bytes (view bank) before) → (IsTrue told → IsSound (view closing.bank)) → faults bank ≤ faults opening.bank → closing.journal.size ≡ journal_bytes
@@ -135,7 +159,7 @@ module _ {B P : Type 0} (told : Bool) (faults : B → ℕ) (view : B → View) (
 status_at : (tells : Bool) (journal : Content) (budget : ℕ) (old new : Outside) (moment status : ℕ) → HasStatus tells journal budget (record old { moment = moment }) new status → HasStatus tells journal budget old new status
 status_at tells journal budget old new moment status h = record {
   bad_journal = h.bad_journal;
-  bank = h.bank;
+  fault = h.fault;
   source = h.source;
   sink = h.sink;
   over = h.over;

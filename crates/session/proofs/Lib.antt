@@ -1,6 +1,7 @@
 pub mod RoundLaws
 pub mod KeptLaws
 pub mod Prefixes
+pub mod AnswerCauses
 pub mod MachineLaws
 pub mod Hearings
 pub mod Responses

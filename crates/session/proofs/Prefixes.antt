@@ -2,18 +2,20 @@
 use Rattle.std.proofs.Common.{◌≡◌, ◌⊎◌, inl, inr, ℕ, ◌+◌, List, [], ◌∷◌, ◌++◌, length, take, refl, sym, ◌∙◌, ap, Bool, true, false, Option, Some, None, Ok, Err, append_assoc}
 use Rattle.std.proofs.lemmas.List.{append-nil}
 use Rattle.std.proofs.Math.Seq.{take-append_seam}
+use Rattle.outside.specs.declared.folder.NamedText.{NamedText}
 use Rattle.bank.specs.Content.{Image}
 use Rattle.bank.specs.View.{View}
 use Rattle.records.specs.declared.event.Asked.{Asked}
-use Rattle.records.specs.declared.event.Asked.TheVariants.{One, At as AskedAt}
+use Rattle.records.specs.declared.event.Asked.TheVariants.{One, At as AskedAt, Configure}
 use Rattle.records.specs.declared.event.Event.{Event}
+use Rattle.records.specs.declared.event.Event.TheVariants.{Configure as ConfigureEvent}
 use Rattle.records.specs.declared.reply.Reply.{Reply}
 use Rattle.site_history.specs.Steps.{HistoryStep}
 use Rattle.site_history.specs.Answers.{Answer}
 use Rattle.site_history.specs.Worlds.{World, with_step, answer_in, moment_of, clock_from, TurnBy, Course, Goes, Stays, Owes, course_of, EventTurnBy}
 use Rattle.site_history.specs.Images.{Reads, ReadsAs}
 use Rattle.session.specs.Asking.{Request}
-use Rattle.session.specs.Rounds.{Stage, Round, IsRoundOf, IsRun, stage_after, marks_from}
+use Rattle.session.specs.Rounds.{Stage, Round, IsEvent, IsRoundOf, IsRun, stage_after, marks_from}
 use Rattle.session.specs.Kept.{AreKept, BeginsWith, AreHeld}
 
 -- A history begins with itself, and with what a beginning of it begins with.
@@ -52,24 +54,33 @@ event_begins true size w event now area reply w' (inl (steps, inr (made, owed, e
 stage_alike : (stage stage' : Stage) → stage' ≡ stage → BeginsWith stage.world.history stage'.world.history
 stage_alike stage stage' e = alike stage.world.history stage.world.history stage'.world.history (ap (λ (s : Stage). s.world.history) e) (whole stage.world.history)
 
-asked_begins : (size : ℕ) (stage : Stage) (asked : Asked) (reply : Reply) (stage' : Stage) → IsRoundOf size true stage (Ok asked) reply stage' → BeginsWith stage.world.history stage'.world.history
-asked_begins size stage (One event) reply stage' (inl lost) = stage_alike stage stage' lost.1
-asked_begins size stage (One event) reply stage' (inr turn) =
+stage_event : (size : ℕ) (stage : Stage) (event : Event) (reply : Reply) (stage' : Stage) → IsEvent size true stage event reply stage' → BeginsWith stage.world.history stage'.world.history
+stage_event size stage event reply stage' turn =
     alike stage.world.history turn.1.history stage'.world.history (ap (λ (s : Stage). s.world.history) turn.3) (event_begins stage.world.due size stage.world event stage.now turn.0 reply turn.1 turn.2)
-asked_begins size stage (AskedAt moment) reply stage' (inl lost) = stage_alike stage stage' lost.1
-asked_begins size stage (AskedAt moment) reply stage' (inr moved) =
-    alike stage.world.history stage.world.history stage'.world.history (ap (λ (s : Stage). s.world.history) moved.1) (whole stage.world.history)
-asked_begins size stage _ reply stage' answers = stage_alike stage stage' answers.1
 
-round_begins : (size : ℕ) (stage : Stage) (request : Request) (reply : Reply) (stage' : Stage) → IsRoundOf size true stage request reply stage' → BeginsWith stage.world.history stage'.world.history
-round_begins size stage (Err refusal) reply stage' answers = stage_alike stage stage' answers.1
-round_begins size stage (Ok asked) reply stage' round = asked_begins size stage asked reply stage' round
+asked_begins : (size : ℕ) (folder : Option (List NamedText)) (stage : Stage) (asked : Asked) (reply : Reply) (stage' : Stage) → IsRoundOf size true folder stage (Ok asked) reply stage'
+    → BeginsWith stage.world.history stage'.world.history
+asked_begins size folder stage (One event) reply stage' (inl lost) = stage_alike stage stage' lost.1
+asked_begins size folder stage (One event) reply stage' (inr turn) = stage_event size stage event reply stage' turn
+asked_begins size folder stage (AskedAt moment) reply stage' (inl lost) = stage_alike stage stage' lost.1
+asked_begins size folder stage (AskedAt moment) reply stage' (inr moved) =
+    alike stage.world.history stage.world.history stage'.world.history (ap (λ (s : Stage). s.world.history) moved.1) (whole stage.world.history)
+asked_begins size folder stage Configure reply stage' (inl unread) = stage_alike stage stage' unread.1
+asked_begins size folder stage Configure reply stage' (inr (texts, read, turn)) = stage_event size stage (ConfigureEvent texts) reply stage' turn
+asked_begins size folder stage _ reply stage' answers = stage_alike stage stage' answers.1
+
+round_begins : (size : ℕ) (folder : Option (List NamedText)) (stage : Stage) (request : Request) (reply : Reply) (stage' : Stage) → IsRoundOf size true folder stage request reply stage'
+    → BeginsWith stage.world.history stage'.world.history
+round_begins size folder stage (Err refusal) reply stage' answers = stage_alike stage stage' answers.1
+round_begins size folder stage (Ok asked) reply stage' round = asked_begins size folder stage asked reply stage' round
 
 -- And so it does after a run.
-run_begins : (size : ℕ) (stage : Stage) (rounds : List Round) → IsRun size true stage rounds → BeginsWith stage.world.history (stage_after stage rounds).world.history
-run_begins size stage [] run = whole stage.world.history
-run_begins size stage (x ∷ rounds) run =
-    longer stage.world.history x.after.world.history (stage_after x.after rounds).world.history (round_begins size stage x.asked x.reply x.after run.0) (run_begins size x.after rounds run.1)
+run_begins : (size : ℕ) (folder : Option (List NamedText)) (stage : Stage) (rounds : List Round) → IsRun size true folder stage rounds
+    → BeginsWith stage.world.history (stage_after stage rounds).world.history
+run_begins size folder stage [] run = whole stage.world.history
+run_begins size folder stage (x ∷ rounds) run =
+    longer stage.world.history x.after.world.history (stage_after x.after rounds).world.history
+    (round_begins size folder stage x.asked x.reply x.after run.0) (run_begins size folder x.after rounds run.1)
 
 -- An image that reads as a world reads as a history that begins with the world's.
 read_begins : (size : ℕ) (c : Image) (front : List HistoryStep) (w : World) → BeginsWith front w.history → ReadsAs size w c → (steps : List HistoryStep) × Reads size c steps × BeginsWith front steps
@@ -77,13 +88,13 @@ read_begins size c front w begins (inl reads) = (w.history, reads, begins)
 read_begins size c front w begins (inr (made, owed, reads)) = (w.history ++ made ∷ [], reads, longer front w.history (w.history ++ made ∷ []) begins (made ∷ [], refl))
 
 -- An image since a moment reads as a history that begins with that which stood at the moment.
-since_begins : (size : ℕ) (v : View) (from : ℕ) (stage : Stage) (rounds : List Round) → AreKept size v from stage.world rounds → IsRun size true stage rounds
+since_begins : (size : ℕ) (folder : Option (List NamedText)) (v : View) (from : ℕ) (stage : Stage) (rounds : List Round) → AreKept size v from stage.world rounds → IsRun size true folder stage rounds
     → (c : Image) → v.left_since from c → (steps : List HistoryStep) × Reads size c steps × BeginsWith stage.world.history steps
-since_begins size v from stage [] kept run c left = read_begins size c stage.world.history stage.world (whole stage.world.history) (kept c left)
-since_begins size v from stage (x ∷ rounds) kept run c left = by_time (kept.0 c left) (since_begins size v x.moment x.after rounds kept.1 run.1 c)
+since_begins size folder v from stage [] kept run c left = read_begins size c stage.world.history stage.world (whole stage.world.history) (kept c left)
+since_begins size folder v from stage (x ∷ rounds) kept run c left = by_time (kept.0 c left) (since_begins size folder v x.moment x.after rounds kept.1 run.1 c)
   where
     begins : BeginsWith stage.world.history x.after.world.history
-    begins = round_begins size stage x.asked x.reply x.after run.0
+    begins = round_begins size folder stage x.asked x.reply x.after run.0
 
     by_time : v.left_since x.moment c ⊎ (ReadsAs size stage.world c ⊎ ReadsAs size x.after.world c)
         → (v.left_since x.moment c → (steps : List HistoryStep) × Reads size c steps × BeginsWith x.after.world.history steps)
@@ -97,13 +108,13 @@ front_of : (front last : List HistoryStep) → BeginsWith front last → take (l
 front_of front last begins = ap (λ (l : List HistoryStep). take (length front) l) begins.1 ∙ take-append_seam front begins.0
 
 -- What a crash left since the moment of a mark begins with the steps that the mark counts.
-pub marks_held : (size : ℕ) (v : View) (from n : ℕ) (stage : Stage) (told untold : List Round) → AreKept size v from stage.world (told ++ untold) → IsRun size true stage (told ++ untold)
+pub marks_held : (size : ℕ) (folder : Option (List NamedText)) (v : View) (from n : ℕ) (stage : Stage) (told untold : List Round) → AreKept size v from stage.world (told ++ untold) → IsRun size true folder stage (told ++ untold)
     → AreHeld size v (stage_after stage (told ++ untold)).world.history (marks_from n told)
-marks_held size v from n stage [] untold kept run = tt
-marks_held size v from n stage (x ∷ told) untold kept run = (
+marks_held size folder v from n stage [] untold kept run = tt
+marks_held size folder v from n stage (x ∷ told) untold kept run = (
   λ c left.
-      let r = since_begins size v x.moment x.after (told ++ untold) kept.1 run.1 c left in
-      let same = front_of x.after.world.history (stage_after x.after (told ++ untold)).world.history (run_begins size x.after (told ++ untold) run.1) in
+      let r = since_begins size folder v x.moment x.after (told ++ untold) kept.1 run.1 c left in
+      let same = front_of x.after.world.history (stage_after x.after (told ++ untold)).world.history (run_begins size folder x.after (told ++ untold) run.1) in
       (r.0, r.1, (r.2.0, r.2.1 ∙ ap (λ (l : List HistoryStep). l ++ r.2.0) (sym same))),
-  marks_held size v x.moment (n + 1) x.after told untold kept.1 run.1,
+  marks_held size folder v x.moment (n + 1) x.after told untold kept.1 run.1,
 )

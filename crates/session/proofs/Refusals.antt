@@ -38,11 +38,13 @@ refused_status old new tells journal budget status (inr (inr r)) = by_bad_journa
 
 -- A store that was only read, and not opened.
 pub refused_outcome : (old new : Outside) (told tells : Bool) (entry store : View) (before : List HistoryStep) (marks : List Mark) (status : ℕ) → (IsTrue told → IsTrue tells)
-    → (IsTrue tells → OnlyRead entry store) → (IsTrue told → IsSettled journal_bytes entry before) → new.left ≡ old.left → new.source_faults ≡ old.source_faults → marks ≡ []
-    → Refusal old new tells (entry.content 0) status → IsRefused told entry store old new before marks status
-refused_outcome old new told tells entry store before marks status so read settled unread no_read_failed no_marks refusal = record {
+    → (IsTrue tells → OnlyRead entry store) → (IsTrue told → IsSettled journal_bytes entry before) → new.left ≡ old.left → new.source_faults ≡ old.source_faults
+    → new.folder ≡ old.folder → new.folder_faults ≡ old.folder_faults → marks ≡ [] → Refusal old new tells (entry.content 0) status → IsRefused told entry store old new before marks status
+refused_outcome old new told tells entry store before marks status so read settled unread no_read_failed folder_stays folder_unread no_marks refusal = record {
   unread = unread;
   no_read_failed = no_read_failed;
+  folder_stays = folder_stays;
+  folder_unread = folder_unread;
   no_marks = no_marks;
   refusal = refusal_untold old new told tells (entry.content 0) status so refusal;
   opening = λ t. opening_read journal_bytes entry store before (read (so t)) (settled t);
@@ -53,9 +55,9 @@ module _ (old new : Outside) (tells : Bool) (entry store : View) (cause : ShutCa
     (bad : IsTrue tells → TellsJournal journal_bytes (entry.content 0) cause) (written : TellsRefusal old.written new.written old.sink_faults new.sink_faults cause) where
   -- What was handed back by a store that was shut.
   pub shut_outcome : (told : Bool) (before : List HistoryStep) (marks : List Mark) → (IsTrue told → IsTrue tells) → (IsTrue tells → OnlyRead entry store) → (IsTrue told → IsSettled journal_bytes entry before)
-      → new.left ≡ old.left → new.source_faults ≡ old.source_faults → marks ≡ [] → IsRefused told entry store old new before marks status
-  shut_outcome told before marks so read settled unread no_read_failed no_marks =
-      refused_outcome old new told tells entry store before marks status so read settled unread no_read_failed no_marks (refusal_of old new tells (entry.content 0) cause status is rose bad written)
+      → new.left ≡ old.left → new.source_faults ≡ old.source_faults → new.folder ≡ old.folder → new.folder_faults ≡ old.folder_faults → marks ≡ [] → IsRefused told entry store old new before marks status
+  shut_outcome told before marks so read settled unread no_read_failed folder_stays folder_unread no_marks =
+      refused_outcome old new told tells entry store before marks status so read settled unread no_read_failed folder_stays folder_unread no_marks (refusal_of old new tells (entry.content 0) cause status is rose bad written)
 
   -- The causes of its status.
   pub shut_status : (budget : ℕ) → HasStatus tells (entry.content 0) budget old new status

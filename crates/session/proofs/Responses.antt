@@ -1,23 +1,28 @@
 -- What is answered to what was asked, and where the engine stands then.
-use Rattle.std.proofs.Common.{◌≡◌, ◌⊎◌, inl, inr, ℕ, ◌≤◌, refl, sym, ◌∙◌, ap, subst, arith, Bool, IsTrue, Result, Ok, Err}
+use Rattle.std.proofs.Common.{◌≡◌, ◌⊎◌, inl, inr, ℕ, ◌≤◌, List, refl, sym, ◌∙◌, ap, subst, arith, Bool, IsTrue, Option, Result, Ok, Err}
 use Rattle.std.specs.Prelude.{max}
 use Rattle.site_text.specs.Causes.{Rose, AreCounted}
+use Rattle.outside.specs.declared.folder.NamedText.{NamedText}
 use Rattle.bank.specs.View.{View, IsSound}
 use Rattle.bank.proofs.Moments.{started}
 use Rattle.records.specs.declared.event.Asked.{Asked}
-use Rattle.records.specs.declared.event.Asked.TheVariants.{One, At as AskedAt}
+use Rattle.records.specs.declared.event.Asked.TheVariants.{One, At as AskedAt, Configure}
 use Rattle.records.specs.declared.event.Event.{Event}
+use Rattle.records.specs.declared.event.Event.TheVariants.{Configure as ConfigureEvent}
+use Rattle.records.specs.declared.file.SiteTexts.{SiteTexts}
 use Rattle.records.specs.declared.reply.LineRefusal.{LineRefusal}
 use Rattle.records.specs.declared.reply.LineRefusal.TheVariants.{NotACommand, BadWord, LineTooLong, NoMemory as WantOfMemory}
 use Rattle.records.specs.declared.reply.Reply.{Reply}
-use Rattle.records.specs.declared.reply.Reply.TheVariants.{Line, At, BankFault, NoMemory}
+use Rattle.records.specs.declared.reply.Reply.TheVariants.{Line, At, BankFault, FolderFault, NoMemory}
+use Rattle.configuration.specs.FolderTexts.{AreRead}
 use Rattle.site_history.specs.Worlds.{World, EventTurn}
 use Rattle.site_history.specs.Images.{ReadsAs}
 use Rattle.engine.specs.declared.kept.Engine.{Engine}
 use Rattle.engine.specs.StandsFor.{StandsFor, Moves}
 use Rattle.session.specs.Asking.{Request, reply_to}
 use Rattle.session.specs.Hearing.{IsReadAs}
-use Rattle.session.specs.Rounds.{Stage, IsRoundOf, faults_of}
+use Rattle.session.specs.Rounds.{Stage, IsRoundOf, faults_of, folder_faults_of}
+use Rattle.session.proofs.AnswerCauses.{event_folder}
 
 -- A reply that tells a fault comes where the store counted one.
 pub counted_reply : (reply : Reply) (before now : ℕ) → (reply ≡ BankFault → Rose before now) → before ≤ now → AreCounted before (faults_of reply) now
@@ -25,11 +30,12 @@ counted_reply BankFault before now fault later = fault refl
 counted_reply _ before now fault later = omega (arith, later)
 
 -- Want of memory may be answered to any request.
-memory_lost : (size : ℕ) (told : Bool) (stage : Stage) (request : Request) → IsRoundOf size told stage request NoMemory stage
-memory_lost size told stage (Err refusal) = (inr refl, refl)
-memory_lost size told stage (Ok (One event)) = inl (refl, refl)
-memory_lost size told stage (Ok (AskedAt moment)) = inl (refl, refl)
-memory_lost size told stage (Ok _) = (inr refl, refl)
+memory_lost : (size : ℕ) (told : Bool) (folder : Option (List NamedText)) (stage : Stage) (request : Request) → IsRoundOf size told folder stage request NoMemory stage
+memory_lost size told folder stage (Err refusal) = (inr refl, refl)
+memory_lost size told folder stage (Ok (One event)) = inl (refl, refl)
+memory_lost size told folder stage (Ok (AskedAt moment)) = inl (refl, refl)
+memory_lost size told folder stage (Ok Configure) = inl (inr refl, refl)
+memory_lost size told folder stage (Ok _) = (inr refl, refl)
 
 -- What was read, where it is the same.
 pub read_alike : (asked same : Result Asked LineRefusal) (request : Request) → asked ≡ same → IsReadAs asked request → IsReadAs same request
@@ -40,27 +46,39 @@ request_read : (asked : Asked) (request : Request) → IsReadAs (Ok asked) reque
 request_read asked request (inl e) = e
 request_read asked request (inr e) = absurd (cc)
 
--- What is asked otherwise than by an event or a moment is no command.
-no_command : (size : ℕ) (told : Bool) (stage : Stage) (asked : Asked) → ((event : Event) → asked ≡ One event → ⊥) → ((moment : ℕ) → asked ≡ AskedAt moment → ⊥)
-    → IsRoundOf size told stage (Ok asked) (Line NotACommand) stage
-no_command size told stage (One event) not_one not_at = absurd (not_one event refl)
-no_command size told stage (AskedAt moment) not_one not_at = absurd (not_at moment refl)
-no_command size told stage _ not_one not_at = (inl refl, refl)
+-- What is asked otherwise than by an event, a moment or `configure` is no command.
+no_command : (size : ℕ) (told : Bool) (folder : Option (List NamedText)) (stage : Stage) (asked : Asked) → ((event : Event) → asked ≡ One event → ⊥)
+    → ((moment : ℕ) → asked ≡ AskedAt moment → ⊥) → (asked ≡ Configure → ⊥) → IsRoundOf size told folder stage (Ok asked) (Line NotACommand) stage
+no_command size told folder stage (One event) not_one not_at not_configure = absurd (not_one event refl)
+no_command size told folder stage (AskedAt moment) not_one not_at not_configure = absurd (not_at moment refl)
+no_command size told folder stage Configure not_one not_at not_configure = absurd (not_configure refl)
+no_command size told folder stage _ not_one not_at not_configure = (inl refl, refl)
 
 -- A refused line is answered as it is defined.
-refused_round : (size : ℕ) (told : Bool) (stage : Stage) (refusal : LineRefusal) (request : Request) → IsReadAs (Err refusal) request → IsRoundOf size told stage request (reply_to refusal) stage
-refused_round size told stage WantOfMemory request read = memory_lost size told stage request
-refused_round size told stage NotACommand request (inl e) = subst (λ (r : Request). IsRoundOf size told stage r (Line NotACommand) stage) e (inl refl, refl)
-refused_round size told stage NotACommand request (inr e) = absurd (cc)
-refused_round size told stage (BadWord number) request (inl e) = subst (λ (r : Request). IsRoundOf size told stage r (Line (BadWord number)) stage) e (inl refl, refl)
-refused_round size told stage (BadWord number) request (inr e) = absurd (cc)
-refused_round size told stage LineTooLong request (inl e) = subst (λ (r : Request). IsRoundOf size told stage r (Line LineTooLong) stage) e (inl refl, refl)
-refused_round size told stage LineTooLong request (inr e) = absurd (cc)
+refused_round : (size : ℕ) (told : Bool) (folder : Option (List NamedText)) (stage : Stage) (refusal : LineRefusal) (request : Request) → IsReadAs (Err refusal) request
+    → IsRoundOf size told folder stage request (reply_to refusal) stage
+refused_round size told folder stage WantOfMemory request read = memory_lost size told folder stage request
+refused_round size told folder stage NotACommand request (inl e) = subst (λ (r : Request). IsRoundOf size told folder stage r (Line NotACommand) stage) e (inl refl, refl)
+refused_round size told folder stage NotACommand request (inr e) = absurd (cc)
+refused_round size told folder stage (BadWord number) request (inl e) = subst (λ (r : Request). IsRoundOf size told folder stage r (Line (BadWord number)) stage) e (inl refl, refl)
+refused_round size told folder stage (BadWord number) request (inr e) = absurd (cc)
+refused_round size told folder stage LineTooLong request (inl e) = subst (λ (r : Request). IsRoundOf size told folder stage r (Line LineTooLong) stage) e (inl refl, refl)
+refused_round size told folder stage LineTooLong request (inr e) = absurd (cc)
 
-module _ {B P : Type 0} (told : Bool) (view : B → View) (engine : Engine B P) (stage : Stage) (now : ℕ) (stands : StandsFor told view engine stage.world) (same_now : stage.now ≡ now) where
-  -- The round that a reply makes, where the engine stands after it, and the moment of the events then.
+-- It tells no fault of the folder.
+refused_folder : (refusal : LineRefusal) (before after : ℕ) → before ≤ after → AreCounted before (folder_faults_of (reply_to refusal)) after
+refused_folder NotACommand before after later = omega (arith, later)
+refused_folder (BadWord number) before after later = omega (arith, later)
+refused_folder LineTooLong before after later = omega (arith, later)
+refused_folder WantOfMemory before after later = omega (arith, later)
+
+-- `faults` and `faults'` are the folder's counts before and after.
+module _ {B P : Type 0} (told : Bool) (view : B → View) (engine : Engine B P) (folder : Option (List NamedText)) (faults faults' : ℕ) (stage : Stage) (now : ℕ)
+    (stands : StandsFor told view engine stage.world) (same_now : stage.now ≡ now) (later : faults ≤ faults') where
+  -- The round that a reply makes, where the engine stands after it, the moment of the events then, and what the folder counted.
   abbrev pub Responds : ℕ → Request → Reply → Engine B P → ℕ → Type 0
-  Responds size request reply engine' now' = (stage' : Stage) × IsRoundOf size told stage request reply stage' × Moves told view engine engine' stage.world stage'.world × (now' ≡ stage'.now)
+  Responds size request reply engine' now' = (stage' : Stage) × IsRoundOf size told folder stage request reply stage' × Moves told view engine engine' stage.world stage'.world
+      × (now' ≡ stage'.now) × AreCounted faults (folder_faults_of reply) faults'
 
   -- The engine was not asked.
   still : (IsTrue told → IsSound (view engine.bank)) → (w : World) → w ≡ stage.world → Moves told view engine engine stage.world w
@@ -73,11 +91,30 @@ module _ {B P : Type 0} (told : Bool) (view : B → View) (engine : Engine B P) 
       → Responds size request reply engine' now
   event_response size area event request reply engine' read turn = (
     record { world = turn.0; now = stage.now },
-    subst (λ (r : Request). IsRoundOf size told stage r reply (record { world = turn.0; now = stage.now })) (request_read (One event) request read)
+    subst (λ (r : Request). IsRoundOf size told folder stage r reply (record { world = turn.0; now = stage.now })) (request_read (One event) request read)
         (inr (area, turn.0, subst (λ (n : ℕ). EventTurn size told stage.world event n area reply turn.0) (sym same_now) turn.1, refl)),
     turn.2,
     sym same_now,
+    event_folder size told stage.world event now area reply turn.0 faults faults' turn.1 later,
   )
+
+  -- So was the event of the texts that the folder gave.
+  pub configured_response : (size area : ℕ) (texts : SiteTexts) (reply : Reply) (engine' : Engine B P) → AreRead folder texts
+      → (w' : World) × EventTurn size told stage.world (ConfigureEvent texts) now area reply w' × Moves told view engine engine' stage.world w'
+      → Responds size (Ok Configure) reply engine' now
+  configured_response size area texts reply engine' read turn = (
+    record { world = turn.0; now = stage.now },
+    inr (texts, read, (area, turn.0, subst (λ (n : ℕ). EventTurn size told stage.world (ConfigureEvent texts) n area reply turn.0) (sym same_now) turn.1, refl)),
+    turn.2,
+    sym same_now,
+    event_folder size told stage.world (ConfigureEvent texts) now area reply turn.0 faults faults' turn.1 later,
+  )
+
+  -- `configure` was asked, which was answered so.
+  pub configure_response : (size : ℕ) (request : Request) (reply : Reply) (engine' : Engine B P) (now' : ℕ) → IsReadAs (Ok Configure) request → Responds size (Ok Configure) reply engine' now'
+      → Responds size request reply engine' now'
+  configure_response size request reply engine' now' read responds =
+      subst (λ (r : Request). Responds size r reply engine' now') (request_read Configure request read) responds
 
   module _ (sound : IsTrue told → IsSound (view engine.bank)) where
     -- The moment of the events moved on.
@@ -85,27 +122,34 @@ module _ {B P : Type 0} (told : Bool) (view : B → View) (engine : Engine B P) 
     at_response size moment moved request read is =
         let moved_on : moved ≡ max moment stage.now = is ∙ ap (λ (n : ℕ). max moment n) (sym same_now) in (
           record { world = stage.world; now = max moment stage.now },
-          subst (λ (r : Request). IsRoundOf size told stage r (At moved) (record { world = stage.world; now = max moment stage.now })) (request_read (AskedAt moment) request read)
+          subst (λ (r : Request). IsRoundOf size told folder stage r (At moved) (record { world = stage.world; now = max moment stage.now })) (request_read (AskedAt moment) request read)
               (inr (ap (λ (n : ℕ). At n) moved_on, refl)),
           still sound stage.world refl,
           moved_on,
+          omega (arith, later),
         )
 
+    -- No text could be read of the folder.
+    pub unread_response : (size : ℕ) (reply : Reply) → (reply ≡ FolderFault) ⊎ (reply ≡ NoMemory) → AreCounted faults (folder_faults_of reply) faults' → Responds size (Ok Configure) reply engine now
+    unread_response size reply unread counted = (stage, inl (unread, refl), still sound stage.world refl, sym same_now, counted)
+
     -- What was asked is no command.
-    pub other_response : (size : ℕ) (asked : Asked) (request : Request) → ((event : Event) → asked ≡ One event → ⊥) → ((moment : ℕ) → asked ≡ AskedAt moment → ⊥) → IsReadAs (Ok asked) request
-        → Responds size request (Line NotACommand) engine now
-    other_response size asked request not_one not_at read = (
+    pub other_response : (size : ℕ) (asked : Asked) (request : Request) → ((event : Event) → asked ≡ One event → ⊥) → ((moment : ℕ) → asked ≡ AskedAt moment → ⊥) → (asked ≡ Configure → ⊥)
+        → IsReadAs (Ok asked) request → Responds size request (Line NotACommand) engine now
+    other_response size asked request not_one not_at not_configure read = (
       stage,
-      subst (λ (r : Request). IsRoundOf size told stage r (Line NotACommand) stage) (request_read asked request read) (no_command size told stage asked not_one not_at),
+      subst (λ (r : Request). IsRoundOf size told folder stage r (Line NotACommand) stage) (request_read asked request read) (no_command size told folder stage asked not_one not_at not_configure),
       still sound stage.world refl,
       sym same_now,
+      omega (arith, later),
     )
 
     -- The line was refused, or no memory was found for it.
     pub refused_response : (size : ℕ) (refusal : LineRefusal) (request : Request) (reply : Reply) → IsReadAs (Err refusal) request → reply ≡ reply_to refusal → Responds size request reply engine now
     refused_response size refusal request reply read is = (
       stage,
-      subst (λ (r : Reply). IsRoundOf size told stage request r stage) (sym is) (refused_round size told stage refusal request read),
+      subst (λ (r : Reply). IsRoundOf size told folder stage request r stage) (sym is) (refused_round size told folder stage refusal request read),
       still sound stage.world refl,
       sym same_now,
+      subst (λ (r : Reply). AreCounted faults (folder_faults_of r) faults') (sym is) (refused_folder refusal faults faults' later),
     )

@@ -1,17 +1,19 @@
 -- One round more.
-use Rattle.std.proofs.Common.{◌≡◌, ℕ, ◌+◌, ◌≤◌, List, [], ◌∷◌, ◌++◌, length, refl, sym, ◌∙◌, ap, arith, Bool, false, cond, suc, zero, append_assoc}
+use Rattle.std.proofs.Common.{◌≡◌, ℕ, ◌+◌, ◌≤◌, List, [], ◌∷◌, ◌++◌, length, refl, sym, ◌∙◌, ap, arith, Bool, false, cond, suc, zero, append_assoc, Option}
 use Rattle.std.proofs.lemmas.List.{append-nil}
 use Rattle.std.proofs.lemmas.Bool.{ne_eqb}
 use Rattle.site_text.specs.Causes.{AreCounted}
+use Rattle.outside.specs.declared.folder.NamedText.{NamedText}
 use Rattle.desk.specs.Texts.{text_of}
 use Rattle.session.specs.Asking.{Request}
-use Rattle.session.specs.Rounds.{Stage, Round, IsRoundOf, GoOn, ends_run, IsRun, stage_after, asked, output, AreInTime, mark_of, marks_from, cause_of, first_of, status_from, faults_of, faults_in}
+use Rattle.session.specs.Rounds.{Stage, Round, IsRoundOf, GoOn, ends_run, IsRun, stage_after, asked, output, AreInTime, mark_of, marks_from, cause_of, first_of, status_from, faults_of, faults_in, folder_faults_of, folder_faults_in}
 use Rattle.session.specs.declared.kept.Mark.{Mark}
 
 -- A run goes on by a round from where it stands.
-pub run_more : (size : ℕ) (told : Bool) (stage : Stage) (rs : List Round) (r : Round) → IsRun size told stage rs → IsRoundOf size told (stage_after stage rs) r.asked r.reply r.after → IsRun size told stage (rs ++ r ∷ [])
-run_more size told stage [] r run turn = (turn, tt)
-run_more size told stage (x ∷ rs) r run turn = (run.0, run_more size told x.after rs r run.1 turn)
+pub run_more : (size : ℕ) (told : Bool) (folder : Option (List NamedText)) (stage : Stage) (rs : List Round) (r : Round) → IsRun size told folder stage rs
+    → IsRoundOf size told folder (stage_after stage rs) r.asked r.reply r.after → IsRun size told folder stage (rs ++ r ∷ [])
+run_more size told folder stage [] r run turn = (turn, tt)
+run_more size told folder stage (x ∷ rs) r run turn = (run.0, run_more size told folder x.after rs r run.1 turn)
 
 -- It stands then where the round left it.
 pub after_more : (stage : Stage) (rs : List Round) (r : Round) → stage_after stage (rs ++ r ∷ []) ≡ r.after
@@ -86,6 +88,10 @@ status_more (x ∷ rs) r later = ap (λ (n : ℕ). first_of (cause_of x.reply) n
 pub faults_more : (rs : List Round) (r : Round) → faults_in (rs ++ r ∷ []) ≡ faults_in rs + faults_of r.reply
 faults_more [] r = omega arith
 faults_more (x ∷ rs) r = omega (arith, faults_more rs r)
+
+pub folder_faults_more : (rs : List Round) (r : Round) → folder_faults_in (rs ++ r ∷ []) ≡ folder_faults_in rs + folder_faults_of r.reply
+folder_faults_more [] r = omega arith
+folder_faults_more (x ∷ rs) r = omega (arith, folder_faults_more rs r)
 
 -- Faults that were counted one run after another.
 pub counted_more : (start n more before now : ℕ) → AreCounted start n before → AreCounted before more now → AreCounted start (n + more) now

@@ -21,39 +21,39 @@ module _ (tells : Bool) (journal : Content) (budget : ℕ) (old new : Outside) (
   pub by_bank : status ≡ 3 → Rose old.bank_faults new.bank_faults → HasStatus tells journal budget old new status
   by_bank is rose = record {
     bad_journal = λ h t. absurd (omega (arith, is, h));
-    bank = λ h. rose;
+    fault = λ h. inl rose;
     source = λ h. absurd (omega (arith, is, h));
     sink = λ h. absurd (omega (arith, is, h));
     over = λ h. absurd (omega (arith, is, h));
     read = λ h. absurd (omega (arith, is, h));
     refused = λ t place bad. inr (inr (is, rose));
-    complete = λ no_bank no_source no_sink. absurd (no_bank rose);
+    complete = λ no_bank no_folder no_source no_sink. absurd (no_bank rose);
   }
 
   -- Want of memory.
   pub by_memory : status ≡ 9 → HasStatus tells journal budget old new status
   by_memory is = record {
     bad_journal = λ h t. absurd (omega (arith, is, h));
-    bank = λ h. absurd (omega (arith, is, h));
+    fault = λ h. absurd (omega (arith, is, h));
     source = λ h. absurd (omega (arith, is, h));
     sink = λ h. absurd (omega (arith, is, h));
     over = λ h. absurd (omega (arith, is, h));
     read = λ h. absurd (omega (arith, is, h));
     refused = λ t place bad. inr (inl is);
-    complete = λ no_bank no_source no_sink. if_any old.left _ (λ xs. (λ _. inr (inr is), λ _. inr (inr is)));
+    complete = λ no_bank no_folder no_source no_sink. if_any old.left _ (λ xs. (λ _. inr (inr is), λ _. inr (inr is)));
   }
 
   -- A bad journal.
   pub by_bad_journal : status ≡ 2 → (IsTrue tells → (place : ℕ) × IsBadJournal journal_bytes journal place) → HasStatus tells journal budget old new status
   by_bad_journal is bad_there = record {
     bad_journal = λ h t. bad_there t;
-    bank = λ h. absurd (omega (arith, is, h));
+    fault = λ h. absurd (omega (arith, is, h));
     source = λ h. absurd (omega (arith, is, h));
     sink = λ h. absurd (omega (arith, is, h));
     over = λ h. absurd (omega (arith, is, h));
     read = λ h. absurd (omega (arith, is, h));
     refused = λ t place bad. inl is;
-    complete = λ no_bank no_source no_sink. if_any old.left _ (λ xs. (λ _. inr (inl is), λ _. inr (inl is)));
+    complete = λ no_bank no_folder no_source no_sink. if_any old.left _ (λ xs. (λ _. inr (inl is), λ _. inr (inl is)));
   }
 
   -- All other causes come in a session, over a journal that is not bad.
@@ -62,50 +62,63 @@ module _ (tells : Bool) (journal : Content) (budget : ℕ) (old new : Outside) (
     pub by_end : status ≡ 0 → IsAtEnd new.left → IfSome old.left (λ bytes. length bytes ≤ budget) → HasStatus tells journal budget old new status
     by_end is at_end within = record {
       bad_journal = λ h t. absurd (omega (arith, is, h));
-      bank = λ h. absurd (omega (arith, is, h));
+      fault = λ h. absurd (omega (arith, is, h));
       source = λ h. absurd (omega (arith, is, h));
       sink = λ h. absurd (omega (arith, is, h));
       over = λ h. absurd (omega (arith, is, h));
       read = λ h. at_end;
       refused = λ t place bad. absurd (not_bad t place bad);
-      complete = λ no_bank no_source no_sink. if_some old.left _ _ (λ xs h. (λ _. inl is, λ more. absurd (omega (arith, h, more)))) within;
+      complete = λ no_bank no_folder no_source no_sink. if_some old.left _ _ (λ xs h. (λ _. inl is, λ more. absurd (omega (arith, h, more)))) within;
+    }
+
+    -- A fault of the folder.
+    pub by_folder : status ≡ 3 → Rose old.folder_faults new.folder_faults → HasStatus tells journal budget old new status
+    by_folder is rose = record {
+      bad_journal = λ h t. absurd (omega (arith, is, h));
+      fault = λ h. inr rose;
+      source = λ h. absurd (omega (arith, is, h));
+      sink = λ h. absurd (omega (arith, is, h));
+      over = λ h. absurd (omega (arith, is, h));
+      read = λ h. absurd (omega (arith, is, h));
+      refused = λ t place bad. absurd (not_bad t place bad);
+      complete = λ no_bank no_folder no_source no_sink. absurd (no_folder rose);
     }
 
     -- A fault of the source.
     pub by_source : status ≡ 4 → Rose old.source_faults new.source_faults → HasStatus tells journal budget old new status
     by_source is rose = record {
       bad_journal = λ h t. absurd (omega (arith, is, h));
-      bank = λ h. absurd (omega (arith, is, h));
+      fault = λ h. absurd (omega (arith, is, h));
       source = λ h. rose;
       sink = λ h. absurd (omega (arith, is, h));
       over = λ h. absurd (omega (arith, is, h));
       read = λ h. absurd (omega (arith, is, h));
       refused = λ t place bad. absurd (not_bad t place bad);
-      complete = λ no_bank no_source no_sink. absurd (no_source rose);
+      complete = λ no_bank no_folder no_source no_sink. absurd (no_source rose);
     }
 
     -- A fault of the sink.
     pub by_sink : status ≡ 5 → Rose old.sink_faults new.sink_faults → HasStatus tells journal budget old new status
     by_sink is rose = record {
       bad_journal = λ h t. absurd (omega (arith, is, h));
-      bank = λ h. absurd (omega (arith, is, h));
+      fault = λ h. absurd (omega (arith, is, h));
       source = λ h. absurd (omega (arith, is, h));
       sink = λ h. rose;
       over = λ h. absurd (omega (arith, is, h));
       read = λ h. absurd (omega (arith, is, h));
       refused = λ t place bad. absurd (not_bad t place bad);
-      complete = λ no_bank no_source no_sink. absurd (no_sink rose);
+      complete = λ no_bank no_folder no_source no_sink. absurd (no_sink rose);
     }
 
     -- A byte beyond the budget.
     pub by_budget : status ≡ 7 → IfSome old.left (λ bytes. budget < length bytes) → HasStatus tells journal budget old new status
     by_budget is beyond = record {
       bad_journal = λ h t. absurd (omega (arith, is, h));
-      bank = λ h. absurd (omega (arith, is, h));
+      fault = λ h. absurd (omega (arith, is, h));
       source = λ h. absurd (omega (arith, is, h));
       sink = λ h. absurd (omega (arith, is, h));
       over = λ h. beyond;
       read = λ h. absurd (omega (arith, is, h));
       refused = λ t place bad. absurd (not_bad t place bad);
-      complete = λ no_bank no_source no_sink. if_some old.left _ _ (λ xs more. (λ h. absurd (omega (arith, more, h)), λ _. inl is)) beyond;
+      complete = λ no_bank no_folder no_source no_sink. if_some old.left _ _ (λ xs more. (λ h. absurd (omega (arith, more, h)), λ _. inl is)) beyond;
     }

@@ -1,10 +1,12 @@
 -- The causes of the status of a session.
-use Rattle.std.proofs.Common.{◌≡◌, ◌⊎◌, inl, inr, ℕ, ◌<◌, ◌≤◌, List, [], ◌∷◌, ◌++◌, length, take, refl, sym, ◌∙◌, ap, subst, arith, Bool, true, false, cond, length-append, Option, Some, None, IfSome, IsTrue}
+use Rattle.std.proofs.Common.{◌≡◌, ◌⊎◌, inl, inr, ℕ, suc, zero, ◌+◌, ◌<◌, ◌≤◌, List, [], ◌∷◌, ◌++◌, length, take, refl, sym, ◌∙◌, ap, subst, arith, Bool, true, false, cond, length-append, Option, Some, None, IfSome, IsTrue}
 use Rattle.std.proofs.lemmas.List.{append-nil, take_all}
-use Rattle.std.proofs.lemmas.Bool.{eqb-true}
+use Rattle.std.proofs.lemmas.Bool.{and_parts, and_from}
 use Rattle.std.specs.Prelude.{nat_eq}
+use Rattle.std.specs.List.{list_all}
 use Rattle.std.specs.Io.KnownBytes.{Appends, Consumes, IsAtEnd}
-use Rattle.site_text.specs.Causes.{Rose}
+use Rattle.site_text.specs.Causes.{Rose, AreCounted}
+use Rattle.outside.specs.declared.folder.NamedText.{NamedText}
 use Rattle.bank.specs.Content.{Content}
 use Rattle.bank.specs.View.{View}
 use Rattle.records.specs.declared.reply.Reply.{Reply}
@@ -15,46 +17,62 @@ use Rattle.site_history.specs.Images.{IsSettled}
 use Rattle.site_history.specs.Journals.{IsBadJournal}
 use Rattle.site_history.proofs.JournalLaws.{not_bad_journal}
 use Rattle.session.specs.Asking.{Request, asks_of}
-use Rattle.session.specs.Rounds.{Stage, Round, ends_run, IsRun, asked, output, cause_of, first_of, status_from, faults_in, calm}
-use Rattle.session.specs.Machine.{output_of}
+use Rattle.session.specs.Rounds.{Stage, Round, ends_run, IsRun, asked, output, cause_of, first_of, status_from, faults_in, folder_faults_in, is_told, calm}
+use Rattle.session.specs.Machine.{output_of, texts_told}
 use Rattle.session.specs.Session.{Outside, IsSession, Ends, status_of}
 use Rattle.session.specs.Outcomes.{HasStatus, journal_bytes}
 use Rattle.session.specs.declared.kept.Mark.{Mark}
 use Rattle.session.specs.declared.kept.Ending.{Ending}
 use Rattle.session.proofs.RoundLaws.{asked-length, first_suc}
-use Rattle.session.proofs.MachineLaws.{CauseOf, round_cause, calm_rests, output_told}
-use Rattle.session.proofs.StatusCauses.{by_bank, by_memory, by_end, by_source, by_sink, by_budget}
+use Rattle.session.proofs.AnswerCauses.{CauseOf}
+use Rattle.session.proofs.MachineLaws.{round_cause, calm_rests, output_told}
+use Rattle.session.proofs.StatusCauses.{by_bank, by_folder, by_memory, by_end, by_source, by_sink, by_budget}
+
+-- None of the replies is a cause of a status.
+abbrev NoCauses : List Round → Type 0
+NoCauses [] = Unit {0}
+NoCauses (x ∷ rs) = (cause_of x.reply ≡ 0) × NoCauses rs
 
 -- A status is that of what ended the run, or that of a reply.
 abbrev StatusOf : List Round → ℕ → ℕ → Type 0
-StatusOf rs later n = ((n ≡ later) × (calm rs ≡ rs)) ⊎ (((n ≡ 3) × (0 < faults_in rs)) ⊎ (n ≡ 9))
+StatusOf rs later n = ((n ≡ later) × NoCauses rs) ⊎ (((n ≡ 3) × (0 < faults_in rs + folder_faults_in rs)) ⊎ (n ≡ 9))
 
 -- A reply that is no cause leaves the status to what comes after it.
 behind_calm : (x : Round) (rs : List Round) (later n : ℕ) → cause_of x.reply ≡ 0 → StatusOf rs later n → StatusOf (x ∷ rs) later (first_of (cause_of x.reply) n)
-behind_calm x rs later n e (inl (m, c)) = inl (ap (λ (k : ℕ). first_of k n) e ∙ m, ap (λ (k : ℕ). cond (nat_eq k 0) (x ∷ calm rs) []) e ∙ ap (λ (l : List Round). x ∷ l) c)
+behind_calm x rs later n e (inl (m, none)) = inl (ap (λ (k : ℕ). first_of k n) e ∙ m, (e, none))
 behind_calm x rs later n e (inr (inl (m, some))) = inr (inl (ap (λ (k : ℕ). first_of k n) e ∙ m, omega (arith, some)))
 behind_calm x rs later n e (inr (inr m)) = inr (inr (ap (λ (k : ℕ). first_of k n) e ∙ m))
 
--- The status of a run that began with no reopening due: a fault of the store, want of memory, or what ended the run.
-status_is : (size : ℕ) (told : Bool) (stage : Stage) (rs : List Round) (later : ℕ) → stage.world.due ≡ false → IsRun size told stage rs → StatusOf rs later (status_from rs later)
-status_is size told stage [] later rest run = inl (refl, refl)
-status_is size told stage (x ∷ rs) later rest run = by_cause (round_cause size told stage x.asked x.reply x.after rest run.0) (λ h. status_is size told x.after rs later h run.1)
+-- The status of a run that began with no reopening due: a fault of the store or of the folder, want of memory, or what ended
+-- the run.
+status_is : (size : ℕ) (told : Bool) (folder : Option (List NamedText)) (stage : Stage) (rs : List Round) (later : ℕ) → stage.world.due ≡ false → IsRun size told folder stage rs
+    → StatusOf rs later (status_from rs later)
+status_is size told folder stage [] later rest run = inl (refl, tt)
+status_is size told folder stage (x ∷ rs) later rest run =
+    by_cause (round_cause size told folder stage x.asked x.reply x.after rest run.0) (λ h. status_is size told folder x.after rs later h run.1)
   where
     by_cause : CauseOf x.reply → (x.after.world.due ≡ false → StatusOf rs later (status_from rs later)) → StatusOf (x ∷ rs) later (first_of (cause_of x.reply) (status_from rs later))
-    by_cause (inl e) behind = behind_calm x rs later (status_from rs later) e (behind (calm_rests size told stage x.asked x.reply x.after rest run.0 e))
+    by_cause (inl e) behind = behind_calm x rs later (status_from rs later) e (behind (calm_rests size told folder stage x.asked x.reply x.after rest run.0 e))
     by_cause (inr (inl (e, f))) behind = inr (inl (ap (λ (k : ℕ). first_of k (status_from rs later)) e ∙ first_suc 2 (status_from rs later), omega (arith, f)))
     by_cause (inr (inr e)) behind = inr (inr (ap (λ (k : ℕ). first_of k (status_from rs later)) e ∙ first_suc 8 (status_from rs later)))
 
--- The last of calm rounds is calm.
-calm_last : (rs : List Round) (r : Round) → calm (rs ++ r ∷ []) ≡ rs ++ r ∷ [] → cause_of r.reply ≡ 0
-calm_last [] r h = elim (nat_eq (cause_of r.reply) 0) as (λ b. nat_eq (cause_of r.reply) 0 ≡ b → cond b (r ∷ []) [] ≡ r ∷ [] → cause_of r.reply ≡ 0) [
-  | true ↦ (λ e k. eqb-true (cause_of r.reply) 0 e)
-  | false ↦ (λ e k. absurd (cc))
-] refl h
-calm_last (x ∷ rs) r h = calm_last rs r (elim (nat_eq (cause_of x.reply) 0) as (λ b. cond b (x ∷ calm (rs ++ r ∷ [])) [] ≡ x ∷ (rs ++ r ∷ []) → calm (rs ++ r ∷ []) ≡ rs ++ r ∷ []) [
-  | true ↦ (λ k. cc)
-  | false ↦ (λ k. absurd (cc))
-] h)
+-- The last of such rounds is no cause either.
+last_none : (rs : List Round) (r : Round) → NoCauses (rs ++ r ∷ []) → cause_of r.reply ≡ 0
+last_none [] r none = none.0
+last_none (x ∷ rs) r none = last_none rs r none.1
+
+-- Such rounds are all calm, where the folder fixes what the machine tells to them.
+all_calm : (folder : Option (List NamedText)) (rs : List Round) → NoCauses rs → IsTrue (list_all (is_told folder) (asked rs)) → calm folder rs ≡ rs
+all_calm folder [] none fixed = refl
+all_calm folder (x ∷ rs) none fixed =
+    let parts = and_parts (is_told folder x.asked) (list_all (is_told folder) (asked rs)) fixed in
+    ap (λ (b : Bool). cond b (x ∷ calm folder rs) []) (and_from (nat_eq (cause_of x.reply) 0) (is_told folder x.asked) (ap (λ (k : ℕ). nat_eq k 0) none.0) parts.0)
+    ∙ ap (λ (l : List Round). x ∷ l) (all_calm folder rs none.1 parts.1)
+
+-- Of two counts one rose, where together they tell a fault.
+rose_either : (some more before now before' now' : ℕ) → 0 < some + more → AreCounted before some now → AreCounted before' more now' → Rose before now ⊎ Rose before' now'
+rose_either zero more before now before' now' any counted counted' = inr (omega (arith, any, counted'))
+rose_either (suc some) more before now before' now' any counted counted' = inl (omega (arith, counted))
 
 -- An answer that ends the run is a cause.
 last_is_cause : (reply : Reply) → ends_run reply ≡ true → cause_of reply ≡ 2
@@ -80,32 +98,35 @@ no_front (x ∷ xs) ys e = absurd (cc)
 module _ (Stands : World → Type 0) (told : Bool) (size budget : ℕ) (store : View) (old new : Outside) (first : Stage) (rests : first.world.due ≡ false) (marks : List Mark) (status : ℕ)
     (s : IsSession asks_of Stands told size budget store old new first marks status) where
   kind : StatusOf (s.told ++ s.untold) (status_of s.ending) status
-  kind = subst (λ (n : ℕ). StatusOf (s.told ++ s.untold) (status_of s.ending) n) (sym s.first_cause) (status_is size told first (s.told ++ s.untold) (status_of s.ending) rests s.run)
+  kind = subst (λ (n : ℕ). StatusOf (s.told ++ s.untold) (status_of s.ending) n) (sym s.first_cause) (status_is size told old.folder first (s.told ++ s.untold) (status_of s.ending) rests s.run)
 
   abbrev EndsAs : Ending → Type 0
   EndsAs ending = Ends budget old new s.read s.beyond s.met_end s.told s.untold s.cut s.unasked ending
 
-  rises : 0 < faults_in (s.told ++ s.untold) → Rose old.bank_faults new.bank_faults
-  rises some = omega (arith, s.counted, some)
+  abbrev pub Rises : Type 0
+  Rises = Rose old.bank_faults new.bank_faults ⊎ Rose old.folder_faults new.folder_faults
 
-  -- An answer that ends the run is no calm one.
-  never_closed : EndsAs Ending.Closed → calm (s.told ++ s.untold) ≡ s.told ++ s.untold → ⊥
-  never_closed e calm_all =
+  rises : 0 < faults_in (s.told ++ s.untold) + folder_faults_in (s.told ++ s.untold) → Rises
+  rises some = rose_either (faults_in (s.told ++ s.untold)) (folder_faults_in (s.told ++ s.untold)) old.bank_faults new.bank_faults old.folder_faults new.folder_faults some s.counted s.folder_counted
+
+  -- An answer that ends the run is a cause.
+  never_closed : EndsAs Ending.Closed → NoCauses (s.told ++ s.untold) → ⊥
+  never_closed e none =
       let all : s.told ++ s.untold ≡ e.0.0 ++ e.0.1 ∷ [] = ap (λ (l : List Round). s.told ++ l) e.2 ∙ append-nil s.told ∙ e.0.2 in
-      omega (arith, calm_last e.0.0 e.0.1 (subst (λ (l : List Round). calm l ≡ l) all calm_all), last_is_cause e.0.1.reply e.0.4)
+      omega (arith, last_none e.0.0 e.0.1 (subst NoCauses all none), last_is_cause e.0.1.reply e.0.4)
 
   abbrev pub Cause : Type 0
-  Cause = ((status ≡ 0) × EndsAs Ending.Ended × (calm (s.told ++ s.untold) ≡ s.told ++ s.untold))
+  Cause = ((status ≡ 0) × EndsAs Ending.Ended × NoCauses (s.told ++ s.untold))
       ⊎ (((status ≡ 4) × EndsAs Ending.SourceFault) ⊎ (((status ≡ 5) × EndsAs Ending.SinkFault) ⊎ (((status ≡ 7) × EndsAs Ending.OverBudget)
-      ⊎ (((status ≡ 3) × Rose old.bank_faults new.bank_faults) ⊎ (status ≡ 9)))))
+      ⊎ (((status ≡ 3) × Rises) ⊎ (status ≡ 9)))))
 
-  of_ending : (ending : Ending) → EndsAs ending → status ≡ status_of ending → calm (s.told ++ s.untold) ≡ s.told ++ s.untold → Cause
-  of_ending Ending.Ended e is calm_all = inl (is, e, calm_all)
-  of_ending Ending.Closed e is calm_all = absurd (never_closed e calm_all)
-  of_ending Ending.SourceFault e is calm_all = inr (inl (is, e))
-  of_ending Ending.SinkFault e is calm_all = inr (inr (inl (is, e)))
-  of_ending Ending.OverBudget e is calm_all = inr (inr (inr (inl (is, e))))
-  of_ending Ending.NoMemory e is calm_all = inr (inr (inr (inr (inr is))))
+  of_ending : (ending : Ending) → EndsAs ending → status ≡ status_of ending → NoCauses (s.told ++ s.untold) → Cause
+  of_ending Ending.Ended e is none = inl (is, e, none)
+  of_ending Ending.Closed e is none = absurd (never_closed e none)
+  of_ending Ending.SourceFault e is none = inr (inl (is, e))
+  of_ending Ending.SinkFault e is none = inr (inr (inl (is, e)))
+  of_ending Ending.OverBudget e is none = inr (inr (inr (inl (is, e))))
+  of_ending Ending.NoMemory e is none = inr (inr (inr (inr (inr is))))
 
   -- What was the cause of the status.
   pub cause : Cause
@@ -119,25 +140,31 @@ module _ (Stands : World → Type 0) (told : Bool) (size budget : ℕ) (store : 
   all_read : EndsAs Ending.Ended → (P : List ℕ → Type 0) → P s.read → IfSome old.left P
   all_read e P p = taken_all old.left new.left s.read P (subst (λ (l : List ℕ). Consumes old.left new.left l) (ap (λ (l : List ℕ). s.read ++ l) e.1 ∙ append-nil s.read) s.taken) (s.end e.2) p
 
+  -- what was written is the output of all of the input, where the folder fixes it
+  abbrev pub WroteAll : List ℕ → Type 0
+  WroteAll bytes = IsTrue (list_all (is_told old.folder) (asks_of bytes true)) → Appends old.written new.written (output_of size (texts_told old.folder) first (asks_of bytes true))
+
   -- With status 0 the output is that of all that was read, where the store tells its content.
-  all_written : IsTrue told → EndsAs Ending.Ended → calm (s.told ++ s.untold) ≡ s.told ++ s.untold
-      → IfSome old.left (λ bytes. (length bytes ≤ budget) × Appends old.written new.written (output_of size first (asks_of bytes true)))
-  all_written tells e calm_all = all_read e _ (s.within, subst (λ (l : List ℕ). Appends old.written new.written l) out s.written)
+  all_written : IsTrue told → EndsAs Ending.Ended → NoCauses (s.told ++ s.untold) → IfSome old.left (λ bytes. (length bytes ≤ budget) × WroteAll bytes)
+  all_written tells e none = all_read e _ (s.within, λ fixed. subst (λ (l : List ℕ). Appends old.written new.written l) (out (calm_all fixed)) s.written)
     where
       asks : asks_of s.read true ≡ asked (s.told ++ s.untold)
       asks = ap (λ (b : Bool). asks_of s.read b) (sym e.2) ∙ sym s.asks ∙ ap (λ (l : List Request). asked (s.told ++ s.untold) ++ l) e.3 ∙ append-nil (asked (s.told ++ s.untold))
 
-      front_all : take (length (calm (s.told ++ s.untold))) (asks_of s.read s.met_end) ≡ asks_of s.read true
-      front_all = ap (λ (b : Bool). take (length (calm (s.told ++ s.untold))) (asks_of s.read b)) e.2
-          ∙ take_all (length (calm (s.told ++ s.untold))) (asks_of s.read true) (omega (arith, ap length asks, asked-length (s.told ++ s.untold), ap length calm_all))
+      calm_all : IsTrue (list_all (is_told old.folder) (asks_of s.read true)) → calm old.folder (s.told ++ s.untold) ≡ s.told ++ s.untold
+      calm_all fixed = all_calm old.folder (s.told ++ s.untold) none (subst (λ (l : List Request). IsTrue (list_all (is_told old.folder) l)) asks fixed)
 
-      out : output s.told ++ s.cut ≡ output_of size first (asks_of s.read true)
-      out = ap (λ (l : List ℕ). output s.told ++ l) (no_front s.cut s.lost (s.cut_off ∙ ap output e.4)) ∙ append-nil (output s.told)
-          ∙ ap output (sym (append-nil s.told) ∙ ap (λ (l : List Round). s.told ++ l) (sym e.4)) ∙ ap output (sym calm_all)
-          ∙ output_told told (calm (s.told ++ s.untold)) _ tells s.fixed
-          ∙ ap (λ (l : List Request). output_of size first l) front_all
+      front_all : calm old.folder (s.told ++ s.untold) ≡ s.told ++ s.untold → take (length (calm old.folder (s.told ++ s.untold))) (asks_of s.read s.met_end) ≡ asks_of s.read true
+      front_all calm_same = ap (λ (b : Bool). take (length (calm old.folder (s.told ++ s.untold))) (asks_of s.read b)) e.2
+          ∙ take_all (length (calm old.folder (s.told ++ s.untold))) (asks_of s.read true) (omega (arith, ap length asks, asked-length (s.told ++ s.untold), ap length calm_same))
 
-  pub whole_output : IsTrue told → status ≡ 0 → IfSome old.left (λ bytes. (length bytes ≤ budget) × Appends old.written new.written (output_of size first (asks_of bytes true)))
+      out : calm old.folder (s.told ++ s.untold) ≡ s.told ++ s.untold → output s.told ++ s.cut ≡ output_of size (texts_told old.folder) first (asks_of s.read true)
+      out calm_same = ap (λ (l : List ℕ). output s.told ++ l) (no_front s.cut s.lost (s.cut_off ∙ ap output e.4)) ∙ append-nil (output s.told)
+          ∙ ap output (sym (append-nil s.told) ∙ ap (λ (l : List Round). s.told ++ l) (sym e.4)) ∙ ap output (sym calm_same)
+          ∙ output_told told (calm old.folder (s.told ++ s.untold)) _ tells s.fixed
+          ∙ ap (λ (l : List Request). output_of size (texts_told old.folder) first l) (front_all calm_same)
+
+  pub whole_output : IsTrue told → status ≡ 0 → IfSome old.left (λ bytes. (length bytes ≤ budget) × WroteAll bytes)
   whole_output tells is = elim cause [
     | inl c ↦ all_written tells c.1 c.2
     | inr (inl c) ↦ absurd (omega (arith, c.0, is))
@@ -154,7 +181,8 @@ module _ (Stands : World → Type 0) (told : Bool) (size budget : ℕ) (store : 
     | inr (inl c) ↦ by_source tells journal budget old new status not_bad c.0 c.1.5
     | inr (inr (inl c)) ↦ by_sink tells journal budget old new status not_bad c.0 c.1.3
     | inr (inr (inr (inl c))) ↦ by_budget tells journal budget old new status not_bad c.0 (taken_more old.left new.left s.read s.beyond budget s.taken c.1.1 c.1.2)
-    | inr (inr (inr (inr (inl c)))) ↦ by_bank tells journal budget old new status c.0 c.1
+    | inr (inr (inr (inr (inl (is, inl rose))))) ↦ by_bank tells journal budget old new status is rose
+    | inr (inr (inr (inr (inl (is, inr rose))))) ↦ by_folder tells journal budget old new status not_bad is rose
     | inr (inr (inr (inr (inr c)))) ↦ by_memory tells journal budget old new status c
   ]
 

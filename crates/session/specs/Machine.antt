@@ -1,10 +1,16 @@
 -- What is answered where nothing fails: a function of what is asked.
-use Rattle.std.specs.Prelude.{◌≡◌, ℕ, max, List, [], ◌∷◌, flat_map, Bool, Ok, Err}
-use Rattle.records.specs.declared.event.Asked.TheVariants.{One, At as AskedAt}
+use Rattle.std.specs.Prelude.{◌≡◌, ℕ, max, List, [], ◌∷◌, flat_map, Bool, Option, Some, None, Ok, Err}
+use Rattle.outside.specs.declared.folder.NamedText.{NamedText}
+use Rattle.records.specs.declared.event.Asked.TheVariants.{One, At as AskedAt, Configure}
+use Rattle.records.specs.declared.event.Event.{Event}
+use Rattle.records.specs.declared.event.Event.TheVariants.{Configure as ConfigureEvent}
+use Rattle.records.specs.declared.file.SiteTexts.{SiteTexts}
 use Rattle.records.specs.declared.reply.LineRefusal.TheVariants.{NotACommand}
 use Rattle.records.specs.declared.reply.Reply.{Reply}
 use Rattle.records.specs.declared.reply.Reply.TheVariants.{Line, At}
 use Rattle.desk.specs.Texts.{text_of}
+use Rattle.configuration.specs.FolderTexts.{texts_in}
+use Rattle.configuration.specs.Readings.{no_texts}
 use Rattle.site_history.specs.Answers.{Answer}
 use Rattle.site_history.specs.Worlds.{World, at, moment_of, answer_in, with_step, IsReply}
 use Rattle.session.specs.Asking.{Request}
@@ -18,16 +24,28 @@ pub record Told : Type 0 where
 abbrev pub event_told : World → ℕ → ℕ → Answer → Told
 event_told w now moment answer = record { reply = answer.reply; after = record { world = at (with_step w.history answer.step) moment; now = now } }
 
--- what the machine tells
-abbrev pub machine_tells : ℕ → Stage → Request → Told
-machine_tells size stage (Err refusal) = record { reply = Line refusal; after = stage }
-machine_tells size stage (Ok (One event)) = event_told stage.world stage.now (moment_of stage.world.clock stage.now) (answer_in size stage.world.history (moment_of stage.world.clock stage.now) event)
-machine_tells size stage (Ok (AskedAt moment)) = record { reply = At (max moment stage.now); after = record { world = stage.world; now = max moment stage.now } }
-machine_tells size stage (Ok _) = record { reply = Line NotACommand; after = stage }
+-- what the machine tells to an event
+abbrev pub event_tells : ℕ → Stage → Event → Told
+event_tells size stage event =
+    event_told stage.world stage.now (moment_of stage.world.clock stage.now) (answer_in size stage.world.history (moment_of stage.world.clock stage.now) event)
 
-abbrev pub machine_run : ℕ → Stage → List Request → List Told
-machine_run size stage [] = []
-machine_run size stage (request ∷ requests) = machine_tells size stage request ∷ machine_run size (machine_tells size stage request).after requests
+-- what the machine tells, where these texts are read of the folder
+abbrev pub machine_tells : ℕ → SiteTexts → Stage → Request → Told
+machine_tells size texts stage (Err refusal) = record { reply = Line refusal; after = stage }
+machine_tells size texts stage (Ok (One event)) = event_tells size stage event
+machine_tells size texts stage (Ok (AskedAt moment)) = record { reply = At (max moment stage.now); after = record { world = stage.world; now = max moment stage.now } }
+machine_tells size texts stage (Ok Configure) = event_tells size stage (ConfigureEvent texts)
+machine_tells size texts stage (Ok _) = record { reply = Line NotACommand; after = stage }
+
+abbrev pub machine_run : ℕ → SiteTexts → Stage → List Request → List Told
+machine_run size texts stage [] = []
+machine_run size texts stage (request ∷ requests) =
+    machine_tells size texts stage request ∷ machine_run size texts (machine_tells size texts stage request).after requests
+
+-- the texts that are read of a folder which tells them; of one that tells nothing no text is fixed
+abbrev pub texts_told : Option (List NamedText) → SiteTexts
+texts_told None = no_texts
+texts_told (Some folder) = texts_in folder
 
 -- each round went as the machine tells; where the store tells nothing, the bytes of a reply are right in their number alone
 abbrev pub AreTold : Bool → List Round → List Told → Type 0
@@ -37,5 +55,5 @@ AreTold tells [] (told ∷ more) = ⊥
 AreTold tells (round ∷ rounds) [] = ⊥
 
 -- what the machine writes for these requests
-abbrev pub output_of : ℕ → Stage → List Request → List ℕ
-output_of size stage requests = flat_map (λ (told : Told). text_of told.reply) (machine_run size stage requests)
+abbrev pub output_of : ℕ → SiteTexts → Stage → List Request → List ℕ
+output_of size texts stage requests = flat_map (λ (told : Told). text_of told.reply) (machine_run size texts stage requests)

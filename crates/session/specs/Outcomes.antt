@@ -1,5 +1,6 @@
 -- What a whole call does.
 use Rattle.std.specs.Prelude.{◌≡◌, ◌≤◌, ◌<◌, ◌⊎◌, ℕ, List, [], ◌++◌, length, Bool, true, IsTrue, IfSome}
+use Rattle.std.specs.List.{list_all}
 use Rattle.std.specs.Io.KnownBytes.{Appends, IsAtEnd}
 use Rattle.site_text.specs.Causes.{Rose}
 use Rattle.bank.specs.Content.{Content}
@@ -11,8 +12,8 @@ use Rattle.site_history.specs.Worlds.{new_world, IsFound}
 use Rattle.site_history.specs.Images.{IsSettled, IsSettledAs}
 use Rattle.site_history.specs.Journals.{IsBadJournal}
 use Rattle.session.specs.Asking.{asks_of}
-use Rattle.session.specs.Rounds.{Stage, stage_after}
-use Rattle.session.specs.Machine.{output_of}
+use Rattle.session.specs.Rounds.{Stage, stage_after, is_told}
+use Rattle.session.specs.Machine.{output_of, texts_told}
 use Rattle.session.specs.Kept.{IsOpening, AreHeld}
 use Rattle.session.specs.Session.{Outside, IsSession}
 use Rattle.session.specs.declared.kept.Mark.{Mark}
@@ -37,6 +38,8 @@ Refusal old new tells journal status =
 pub record IsRefused (tells : Bool) (entry store : View) (old new : Outside) (before : List HistoryStep) (marks : List Mark) (status : ℕ) : Type 0 where
   pub unread : new.left ≡ old.left
   pub no_read_failed : new.source_faults ≡ old.source_faults
+  pub folder_stays : new.folder ≡ old.folder
+  pub folder_unread : new.folder_faults ≡ old.folder_faults
   pub no_marks : marks ≡ []
   pub refusal : Refusal old new tells (entry.content 0) status
   pub opening : IsTrue tells → IsOpening journal_bytes store entry.moment store.moment before
@@ -53,8 +56,11 @@ pub record IsAnswered (tells : Bool) (budget : ℕ) (entry store : View) (old ne
   pub session : IsSession asks_of (λ w. IsTrue tells → IsSettledAs journal_bytes store w) tells journal_bytes budget store (record old { moment = opened }) new (stage_of found) marks status
   -- each acknowledged step is held by whatever a crash left since its mark
   pub acknowledged : IsTrue tells → AreHeld journal_bytes store (stage_after (stage_of found) (session.told ++ session.untold)).world.history marks
-  -- with status 0 what was written is the machine's output for all that was read
-  pub whole : IsTrue tells → status ≡ 0 → IfSome old.left (λ bytes. (length bytes ≤ budget) × Appends old.written new.written (output_of journal_bytes (stage_of found) (asks_of bytes true)))
+  -- with status 0 what was written is the machine's output for all that was read; that is fixed but where `configure` was asked
+  -- and the folder tells nothing
+  pub whole : IsTrue tells → status ≡ 0 → IfSome old.left (λ bytes. (length bytes ≤ budget)
+      × (IsTrue (list_all (is_told old.folder) (asks_of bytes true))
+      → Appends old.written new.written (output_of journal_bytes (texts_told old.folder) (stage_of found) (asks_of bytes true))))
 
 -- What a call does over a store that was settled for a history; `tells` is whether the store tells its content.
 abbrev pub IsOutcome : Bool → ℕ → View → View → Outside → Outside → List HistoryStep → List Mark → ℕ → Type 0
@@ -65,7 +71,8 @@ IsOutcome tells budget entry store old new before marks status =
 pub record HasStatus (tells : Bool) (journal : Content) (budget : ℕ) (old new : Outside) (status : ℕ) : Type 0 where
   -- a bad journal is met at opening; at a reopening, which comes after a fault of the store alone, that fault is the first cause
   pub bad_journal : status ≡ 2 → IsTrue tells → (place : ℕ) × IsBadJournal journal_bytes journal place
-  pub bank : status ≡ 3 → Rose old.bank_faults new.bank_faults
+  -- a fault of the store or of the folder
+  pub fault : status ≡ 3 → Rose old.bank_faults new.bank_faults ⊎ Rose old.folder_faults new.folder_faults
   pub source : status ≡ 4 → Rose old.source_faults new.source_faults
   pub sink : status ≡ 5 → Rose old.sink_faults new.sink_faults
   pub over : status ≡ 7 → IfSome old.left (λ bytes. budget < length bytes)
@@ -73,5 +80,6 @@ pub record HasStatus (tells : Bool) (journal : Content) (budget : ℕ) (old new 
   -- where the journal is bad the status is 2, but for a fault of the store and want of memory
   pub refused : IsTrue tells → (place : ℕ) → IsBadJournal journal_bytes journal place → (status ≡ 2) ⊎ (status ≡ 9) ⊎ ((status ≡ 3) × Rose old.bank_faults new.bank_faults)
   -- where no count rose, an input within the budget ends with 0, a longer one with 7, but for a bad journal and want of memory
-  pub complete : (Rose old.bank_faults new.bank_faults → ⊥) → (Rose old.source_faults new.source_faults → ⊥) → (Rose old.sink_faults new.sink_faults → ⊥)
+  pub complete : (Rose old.bank_faults new.bank_faults → ⊥) → (Rose old.folder_faults new.folder_faults → ⊥) → (Rose old.source_faults new.source_faults → ⊥)
+      → (Rose old.sink_faults new.sink_faults → ⊥)
       → IfSome old.left (λ bytes. ((length bytes ≤ budget) → (status ≡ 0) ⊎ (status ≡ 2) ⊎ (status ≡ 9)) × ((budget < length bytes) → (status ≡ 7) ⊎ (status ≡ 2) ⊎ (status ≡ 9)))

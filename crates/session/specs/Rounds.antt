@@ -1,10 +1,15 @@
 -- Rounds: what was asked, what was answered, and what followed from it.
-use Rattle.std.specs.Prelude.{◌≡◌, ◌⊎◌, ◌+◌, ◌≤◌, ℕ, max, List, [], ◌∷◌, length, map, flat_map, Bool, true, false, cond, nat_eq, Ok, Err}
-use Rattle.records.specs.declared.event.Asked.TheVariants.{One, At as AskedAt}
+use Rattle.std.specs.Prelude.{◌≡◌, ◌⊎◌, ◌+◌, ◌≤◌, ℕ, max, List, [], ◌∷◌, length, map, flat_map, Bool, ◌&&◌, true, false, cond, nat_eq, Option, Some, None, Ok, Err}
+use Rattle.outside.specs.declared.folder.NamedText.{NamedText}
+use Rattle.records.specs.declared.event.Asked.TheVariants.{One, At as AskedAt, Configure}
+use Rattle.records.specs.declared.event.Event.{Event}
+use Rattle.records.specs.declared.event.Event.TheVariants.{Configure as ConfigureEvent}
+use Rattle.records.specs.declared.file.SiteTexts.{SiteTexts}
 use Rattle.records.specs.declared.reply.LineRefusal.TheVariants.{NotACommand}
 use Rattle.records.specs.declared.reply.Reply.{Reply}
 use Rattle.records.specs.declared.reply.Reply.TheVariants.{Line, At, BankFault, FolderFault, BadJournal, NoMemory}
 use Rattle.desk.specs.Texts.{text_of}
+use Rattle.configuration.specs.FolderTexts.{AreRead}
 use Rattle.site_history.specs.Worlds.{World, EventTurn}
 use Rattle.session.specs.Asking.{Request}
 use Rattle.session.specs.declared.kept.Mark.{Mark}
@@ -25,21 +30,29 @@ pub record Round : Type 0 where
 abbrev pub Answers : Reply → Stage → Reply → Stage → Type 0
 Answers defined stage reply stage' = ((reply ≡ defined) ⊎ (reply ≡ NoMemory)) × (stage' ≡ stage)
 
--- One round from a stage, over a journal of this size; `told` is whether the store tells its content. An event is one of the
--- machine, at the run's moment. `at` moves that moment on. Or no memory was found to read the line. What is asked otherwise
+-- an event of the machine, at the run's moment
+abbrev pub IsEvent : ℕ → Bool → Stage → Event → Reply → Stage → Type 0
+IsEvent size told stage event reply stage' =
+    (area : ℕ) × (w' : World) × EventTurn size told stage.world event stage.now area reply w' × (stage' ≡ record { world = w'; now = stage.now })
+
+-- One round from a stage, over a journal of this size; `told` is whether the store tells its content, and `folder` what the
+-- folder tells. An event is one of the machine. `at` moves the run's moment on. `configure` is the event of the texts that were
+-- read of the folder; where they could not be read, all stays. Or no memory was found to read the line. What is asked otherwise
 -- is no command.
-abbrev pub IsRoundOf : ℕ → Bool → Stage → Request → Reply → Stage → Type 0
-IsRoundOf size told stage (Err refusal) reply stage' = Answers (Line refusal) stage reply stage'
-IsRoundOf size told stage (Ok (One event)) reply stage' = ((reply ≡ NoMemory) × (stage' ≡ stage))
-    ⊎ ((area : ℕ) × (w' : World) × EventTurn size told stage.world event stage.now area reply w' × (stage' ≡ record { world = w'; now = stage.now }))
-IsRoundOf size told stage (Ok (AskedAt moment)) reply stage' = ((reply ≡ NoMemory) × (stage' ≡ stage))
+abbrev pub IsRoundOf : ℕ → Bool → Option (List NamedText) → Stage → Request → Reply → Stage → Type 0
+IsRoundOf size told folder stage (Err refusal) reply stage' = Answers (Line refusal) stage reply stage'
+IsRoundOf size told folder stage (Ok (One event)) reply stage' = ((reply ≡ NoMemory) × (stage' ≡ stage)) ⊎ IsEvent size told stage event reply stage'
+IsRoundOf size told folder stage (Ok (AskedAt moment)) reply stage' = ((reply ≡ NoMemory) × (stage' ≡ stage))
     ⊎ ((reply ≡ At (max moment stage.now)) × (stage' ≡ record { world = stage.world; now = max moment stage.now }))
-IsRoundOf size told stage (Ok _) reply stage' = Answers (Line NotACommand) stage reply stage'
+IsRoundOf size told folder stage (Ok Configure) reply stage' = (((reply ≡ FolderFault) ⊎ (reply ≡ NoMemory)) × (stage' ≡ stage))
+    ⊎ ((texts : SiteTexts) × AreRead folder texts × IsEvent size told stage (ConfigureEvent texts) reply stage')
+IsRoundOf size told folder stage (Ok _) reply stage' = Answers (Line NotACommand) stage reply stage'
 
 -- each round goes on from where the one before it stopped
-abbrev pub IsRun : ℕ → Bool → Stage → List Round → Type 0
-IsRun size told stage [] = Unit {0}
-IsRun size told stage (round ∷ rounds) = IsRoundOf size told stage round.asked round.reply round.after × IsRun size told round.after rounds
+abbrev pub IsRun : ℕ → Bool → Option (List NamedText) → Stage → List Round → Type 0
+IsRun size told folder stage [] = Unit {0}
+IsRun size told folder stage (round ∷ rounds) =
+    IsRoundOf size told folder stage round.asked round.reply round.after × IsRun size told folder round.after rounds
 
 abbrev pub stage_after : Stage → List Round → Stage
 stage_after stage [] = stage
@@ -92,6 +105,15 @@ abbrev pub faults_in : List Round → ℕ
 faults_in [] = 0
 faults_in (round ∷ rounds) = faults_of round.reply + faults_in rounds
 
+-- how many faults of the folder a reply tells
+abbrev pub folder_faults_of : Reply → ℕ
+folder_faults_of FolderFault = 1
+folder_faults_of _ = 0
+
+abbrev pub folder_faults_in : List Round → ℕ
+folder_faults_in [] = 0
+folder_faults_in (round ∷ rounds) = folder_faults_of round.reply + folder_faults_in rounds
+
 -- whether an answer ends the run: a bad journal does
 abbrev pub ends_run : Reply → Bool
 ends_run (BadJournal place) = true
@@ -102,7 +124,15 @@ abbrev pub GoOn : List Round → Type 0
 GoOn [] = Unit {0}
 GoOn (round ∷ rounds) = (ends_run round.reply ≡ false) × GoOn rounds
 
--- the rounds before the first fault or want of memory
-abbrev pub calm : List Round → List Round
-calm [] = []
-calm (round ∷ rounds) = cond (nat_eq (cause_of round.reply) 0) (round ∷ calm rounds) []
+-- Whether the folder fixes what the machine tells to a request. It does not where it tells nothing and `configure` is asked: of
+-- such a folder any texts may be read.
+abbrev pub is_told : Option (List NamedText) → Request → Bool
+is_told (Some texts) request = true
+is_told None (Err refusal) = true
+is_told None (Ok Configure) = false
+is_told None (Ok _) = true
+
+-- the rounds before the first that is a fault or want of memory, or whose request the folder does not fix
+abbrev pub calm : Option (List NamedText) → List Round → List Round
+calm folder [] = []
+calm folder (round ∷ rounds) = cond (nat_eq (cause_of round.reply) 0 && is_told folder round.asked) (round ∷ calm folder rounds) []

@@ -2,12 +2,13 @@
 use Rattle.std.specs.Prelude.{◌≡◌, ◌≤◌, ℕ, List, [], ◌∷◌, ◌++◌, length, take, Option, Bool, true, false, IsTrue}
 use Rattle.std.specs.Io.KnownBytes.{Consumes, Appends, IsAtEnd}
 use Rattle.site_text.specs.Causes.{Rose, AreCounted}
+use Rattle.outside.specs.declared.folder.NamedText.{NamedText}
 use Rattle.bank.specs.View.{View}
 use Rattle.input.specs.Reading.{Items}
 use Rattle.site_history.specs.Worlds.{World}
 use Rattle.session.specs.Asking.{Request}
-use Rattle.session.specs.Rounds.{Stage, Round, IsRun, stage_after, asked, output, AreInTime, marks_from, status_from, faults_in, GoOn, ends_run, calm}
-use Rattle.session.specs.Machine.{AreTold, machine_run}
+use Rattle.session.specs.Rounds.{Stage, Round, IsRun, stage_after, asked, output, AreInTime, marks_from, status_from, faults_in, folder_faults_in, GoOn, ends_run, calm}
+use Rattle.session.specs.Machine.{AreTold, machine_run, texts_told}
 use Rattle.session.specs.Kept.{AreKept}
 use Rattle.session.specs.declared.kept.Mark.{Mark}
 use Rattle.session.specs.declared.kept.Ending.{Ending}
@@ -19,16 +20,21 @@ pub record Outside : Type 0 where
   pub source_faults : ℕ
   pub written : Option (List ℕ)
   pub sink_faults : ℕ
+  pub folder : Option (List NamedText)
+  pub folder_faults : ℕ
   pub bank_faults : ℕ
   pub moment : ℕ
 
--- what a source, a sink and a store tell
-abbrev pub seen : {S K B : Type 0} → (S → Option (List ℕ)) → (S → ℕ) → (K → Option (List ℕ)) → (K → ℕ) → (B → ℕ) → (B → View) → S → K → B → Outside
-seen left source_faults written sink_faults bank_faults view source sink bank = record {
+-- what a source, a sink, a folder and a store tell
+abbrev pub seen : {S K F B : Type 0} → (S → Option (List ℕ)) → (S → ℕ) → (K → Option (List ℕ)) → (K → ℕ) → (F → Option (List NamedText)) → (F → ℕ)
+    → (B → ℕ) → (B → View) → S → K → F → B → Outside
+seen left source_faults written sink_faults texts folder_faults bank_faults view source sink folder bank = record {
   left = left source;
   source_faults = source_faults source;
   written = written sink;
   sink_faults = sink_faults sink;
+  folder = texts folder;
+  folder_faults = folder_faults folder;
   bank_faults = bank_faults bank;
   moment = (view bank).moment;
 }
@@ -74,7 +80,7 @@ pub record IsSession (Asks : Items Request) (Stands : World → Type 0) (tells :
   pub untold : List Round
   pub unasked : List Request
   pub asks : asked (told ++ untold) ++ unasked ≡ Asks read met_end
-  pub run : IsRun size tells first (told ++ untold)
+  pub run : IsRun size tells old.folder first (told ++ untold)
   pub stands : Stands (stage_after first (told ++ untold)).world
   -- what was written
   pub cut : List ℕ
@@ -87,9 +93,13 @@ pub record IsSession (Asks : Items Request) (Stands : World → Type 0) (tells :
   pub kept : IsTrue tells → AreKept size store old.moment first.world (told ++ untold)
   -- what was counted
   pub counted : AreCounted old.bank_faults (faults_in (told ++ untold)) new.bank_faults
+  pub folder_stays : new.folder ≡ old.folder
+  pub folder_counted : AreCounted old.folder_faults (folder_faults_in (told ++ untold)) new.folder_faults
   -- the status
   pub ending : Ending
   pub ends : Ends budget old new read beyond met_end told untold cut unasked ending
   pub first_cause : status ≡ status_from (told ++ untold) (status_of ending)
-  -- up to the first fault or want of memory all answers and worlds are the machine's, for the bytes that were read
-  pub fixed : AreTold tells (calm (told ++ untold)) (machine_run size first (take (length (calm (told ++ untold))) (Asks read met_end)))
+  -- Up to the first fault or want of memory all answers and worlds are the machine's, for the bytes that were read and the
+  -- folder's texts. Where the folder tells nothing, so it is up to the first `configure` as well.
+  pub fixed : AreTold tells (calm old.folder (told ++ untold))
+      (machine_run size (texts_told old.folder) first (take (length (calm old.folder (told ++ untold))) (Asks read met_end)))

@@ -21,8 +21,8 @@ pub struct Session<B, P> {
     pub moment: u64,
     /// One for each answer that was written whole.
     pub marks: Vec<Mark>,
-    /// 2 where the first cause was a bad journal, 3 where it was a fault of the store, 9 where it was want of memory, and 0
-    /// where none came.
+    /// 2 where the first cause was a bad journal, 3 where it was a fault of the store or of the folder, 9 where it was want of
+    /// memory, and 0 where none came.
     pub status: u8,
 }
 

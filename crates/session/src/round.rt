@@ -1,20 +1,21 @@
 //! One round: what was asked is answered, the answer is written, and a mark is kept.
 
-ghost use Rattle.std.specs.Prelude.{◌≡◌, ◌≤◌, ◌+◌, length, IsTrue, Bool};
+ghost use Rattle.std.specs.Prelude.{◌≡◌, ◌≤◌, ◌+◌, length, IsTrue, Bool, Ok};
 ghost use Rattle.site_text.specs.Causes.{AreCounted};
 ghost use Rattle.site_history.specs.Worlds.{World};
 ghost use Rattle.engine.specs.StandsFor.{StandsFor, Moves};
 ghost use Rattle.session.specs.Asking.{Request, reply_to};
 ghost use Rattle.session.specs.Hearing.{IsReadAs};
-ghost use Rattle.session.specs.Rounds.{Stage, Round, IsRoundOf, first_of, cause_of, faults_of, ends_run};
+ghost use Rattle.session.specs.Rounds.{Stage, Round, IsRoundOf, first_of, cause_of, faults_of, folder_faults_of, ends_run};
 ghost use Rattle.session.specs.OneRound.{IsRound, Tells};
 
 use crate::kept::{Ending, Mark, Session};
 use bank::Bank;
+use configuration::read_texts;
 use desk::write_reply;
 use engine::Engine;
-use outside::{Sink, write_all};
-use records::{Asked, LineRefusal, Reply};
+use outside::{Folder, FolderFault, Sink, write_all};
+use records::{Asked, Event, LineRefusal, Reply};
 use std::alloc::Global;
 
 /// The status that an answer is a cause of, or 0.
@@ -57,17 +58,50 @@ fn refused(refusal: LineRefusal) -> Reply
     }
 }
 
-/// Answers what was asked. An event has the moment `now`, in seconds; `at` moves that moment on, and never back.
-fn respond<B: Bank, P: Drop>(
+/// Configures the site by the texts of the folder, at the moment `now`, in seconds. Where they cannot be read, all stays.
+fn configure<B: Bank, P: Drop, F: Folder>(
+    alloc: Global,
+    engine: &mut Engine<B, P>,
+    now: u64,
+    folder: &mut F,
+) -> Reply
+    ensures round { (told : Bool) → (IsTrue told → IsTrue B.tells) → (stage : Stage) → StandsFor told B.view engine.old stage.world → stage.now ≡ now
+        → (stage' : Stage) × IsRoundOf engine.old.journal.size told (F.texts folder.old) stage (Ok Asked.Configure) result stage'
+        × Moves told B.view engine.old engine.new stage.world stage'.world × (now ≡ stage'.now)
+        × AreCounted (F.faults folder.old) (folder_faults_of result) (F.faults folder.new) }
+    ensures counted { AreCounted (B.faults engine.old.bank) (faults_of result) (B.faults engine.new.bank) }
+    ensures later { B.faults engine.old.bank ≤ B.faults engine.new.bank }
+    ensures folder_texts { F.texts folder.new ≡ F.texts folder.old }
+    ensures folder_later { F.faults folder.old ≤ F.faults folder.new }
+    ensures size { engine.new.journal.size ≡ engine.old.journal.size }
+    ensures patterns { engine.new.patterns ≡ engine.old.patterns }
+{
+    match read_texts(alloc, folder) {
+        Ok(texts) => engine.event(&Event::Configure { texts }, now),
+        Err(FolderFault::Failed) => Reply::FolderFault,
+        Err(FolderFault::NoMemory) => Reply::NoMemory,
+        Err(FolderFault::NoFile) => unreachable!(),
+    }
+}
+
+/// Answers what was asked. An event has the moment `now`, in seconds; `at` moves that moment on, and never back. `configure` reads
+/// the folder.
+fn respond<B: Bank, P: Drop, F: Folder>(
+    alloc: Global,
     engine: &mut Engine<B, P>,
     now: &mut u64,
+    folder: &mut F,
     asked: Result<Asked, LineRefusal>,
 ) -> Reply
     ensures round { (told : Bool) → (IsTrue told → IsTrue B.tells) → (stage : Stage) → StandsFor told B.view engine.old stage.world → stage.now ≡ now.old
         → (request : Request) → IsReadAs asked request
-        → (stage' : Stage) × IsRoundOf engine.old.journal.size told stage request result stage' × Moves told B.view engine.old engine.new stage.world stage'.world × (now.new ≡ stage'.now) }
+        → (stage' : Stage) × IsRoundOf engine.old.journal.size told (F.texts folder.old) stage request result stage'
+        × Moves told B.view engine.old engine.new stage.world stage'.world × (now.new ≡ stage'.now)
+        × AreCounted (F.faults folder.old) (folder_faults_of result) (F.faults folder.new) }
     ensures counted { AreCounted (B.faults engine.old.bank) (faults_of result) (B.faults engine.new.bank) }
     ensures later { B.faults engine.old.bank ≤ B.faults engine.new.bank }
+    ensures folder_texts { F.texts folder.new ≡ F.texts folder.old }
+    ensures folder_later { F.faults folder.old ≤ F.faults folder.new }
     ensures size { engine.new.journal.size ≡ engine.old.journal.size }
     ensures patterns { engine.new.patterns ≡ engine.old.patterns }
 {
@@ -81,24 +115,39 @@ fn respond<B: Bank, P: Drop>(
             *now = moment.max(*now);
             Reply::At(*now)
         }
+        Asked::Configure => configure(alloc, engine, *now, folder),
         _ => Reply::Line(LineRefusal::NotACommand),
     }
 }
 
 /// Answers what was asked, and keeps the first cause of a status.
-fn answer<B: Bank, P: Drop>(session: &mut Session<B, P>, asked: Result<Asked, LineRefusal>) -> Reply
+fn answer<B: Bank, P: Drop, F: Folder>(
+    alloc: Global,
+    session: &mut Session<B, P>,
+    folder: &mut F,
+    asked: Result<Asked, LineRefusal>,
+) -> Reply
     ensures round { (told : Bool) → (IsTrue told → IsTrue B.tells) → (stage : Stage) → StandsFor told B.view session.old.engine stage.world → stage.now ≡ session.old.moment
         → (request : Request) → IsReadAs asked request
-        → (stage' : Stage) × IsRoundOf session.old.engine.journal.size told stage request result stage'
-        × Moves told B.view session.old.engine session.new.engine stage.world stage'.world × (session.new.moment ≡ stage'.now) }
+        → (stage' : Stage) × IsRoundOf session.old.engine.journal.size told (F.texts folder.old) stage request result stage'
+        × Moves told B.view session.old.engine session.new.engine stage.world stage'.world × (session.new.moment ≡ stage'.now)
+        × AreCounted (F.faults folder.old) (folder_faults_of result) (F.faults folder.new) }
     ensures counted { AreCounted (B.faults session.old.engine.bank) (faults_of result) (B.faults session.new.engine.bank) }
     ensures later { B.faults session.old.engine.bank ≤ B.faults session.new.engine.bank }
+    ensures folder_texts { F.texts folder.new ≡ F.texts folder.old }
+    ensures folder_later { F.faults folder.old ≤ F.faults folder.new }
     ensures size { session.new.engine.journal.size ≡ session.old.engine.journal.size }
     ensures patterns { session.new.engine.patterns ≡ session.old.engine.patterns }
     ensures status { session.new.status ≡ first_of session.old.status (cause_of result) }
     ensures marks { session.new.marks ≡ session.old.marks }
 {
-    let reply = respond(&mut session.engine, &mut session.moment, asked);
+    let reply = respond(
+        alloc,
+        &mut session.engine,
+        &mut session.moment,
+        folder,
+        asked,
+    );
     session.status = first_cause(session.status, cause(&reply));
     reply
 }
@@ -147,17 +196,19 @@ fn tell<O: Sink>(
     None
 }
 
-/// One round: what was asked is answered, the answer is written, and a mark is kept. Some ends the run.
-pub fn one_round<B: Bank, P: Drop, O: Sink>(
+/// One round: what was asked is answered, the answer is written, and a mark is kept. `configure` reads the folder. Some ends the
+/// run.
+pub fn one_round<B: Bank, P: Drop, F: Folder, O: Sink>(
     alloc: Global,
     session: &mut Session<B, P>,
+    folder: &mut F,
     asked: Result<Asked, LineRefusal>,
     output: &mut O,
 ) -> Option<Ending>
     ensures round { (told : Bool) → (IsTrue told → IsTrue B.tells) → (stage : Stage) → StandsFor told B.view session.old.engine stage.world → stage.now ≡ session.old.moment
         → (request : Request) → IsReadAs asked request → (round : Round)
-        × IsRound (StandsFor told B.view session.new.engine) told session.old.engine.journal.size (B.view session.old.engine.bank) (B.view session.new.engine.bank) stage request
-        (O.written output.old) (O.written output.new) (O.faults output.old) (O.faults output.new)
+        × IsRound (StandsFor told B.view session.new.engine) told session.old.engine.journal.size (F.texts folder.old) (B.view session.old.engine.bank) (B.view session.new.engine.bank) stage request
+        (O.written output.old) (O.written output.new) (O.faults output.old) (O.faults output.new) (F.faults folder.old) (F.faults folder.new)
         (B.faults session.old.engine.bank) (B.faults session.new.engine.bank)
         session.old.marks.items session.new.marks.items session.old.status session.new.status result round
         × (session.new.moment ≡ round.after.now) }
@@ -165,9 +216,11 @@ pub fn one_round<B: Bank, P: Drop, O: Sink>(
     ensures patterns { session.new.engine.patterns ≡ session.old.engine.patterns }
     ensures later { O.faults output.old ≤ O.faults output.new }
     ensures bank_later { B.faults session.old.engine.bank ≤ B.faults session.new.engine.bank }
+    ensures folder_texts { F.texts folder.new ≡ F.texts folder.old }
+    ensures folder_later { F.faults folder.old ≤ F.faults folder.new }
     ensures beside { O.beside output.new ≡ O.beside output.old }
 {
-    let reply = answer(session, asked);
+    let reply = answer(alloc, session, folder, asked);
     let mark = next_mark(session);
     tell(alloc, &mut session.marks, reply, mark, output)
 }

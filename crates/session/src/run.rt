@@ -31,8 +31,8 @@ const JOURNAL_BYTES: u64 = 268_435_456;
 #[derive(Drop)]
 pub struct Outcome<B, P> {
     /// 0 where the input was read to its end and no answer was a fault or want of memory. Else what came first: 2 for a bad
-    /// journal, 3 for a fault of the store, 4 of the source, 5 of the sink, 7 for an input longer than
-    /// the budget, 9 for want of memory.
+    /// journal, 3 for a fault of the store or of the folder, 4 of the source, 5 of the sink, 7 for an input longer than the
+    /// budget, 9 for want of memory.
     pub status: u8,
     /// One for each answer that was written whole.
     pub marks: List<Mark>,
@@ -40,10 +40,12 @@ pub struct Outcome<B, P> {
     pub patterns: P,
 }
 
-/// Answers the lines of an input until it ends, or a cause ends the run. An answer that is a fault of the store ends nothing.
-pub fn converse<B: Bank, P: Drop, I: Source, O: Sink>(
+/// Answers the lines of an input until it ends, or a cause ends the run. An answer that is a fault of the store or of the folder
+/// ends nothing.
+pub fn converse<B: Bank, P: Drop, F: Folder, I: Source, O: Sink>(
     alloc: Global,
     session: &mut Session<B, P>,
+    folder: &mut F,
     reader: &mut Reader,
     input: &mut I,
     output: &mut O,
@@ -54,13 +56,15 @@ pub fn converse<B: Bank, P: Drop, I: Source, O: Sink>(
     requires fresh { Begins reader.old.budget reader.old }
     ensures session { (told : Bool) → (IsTrue told → IsTrue B.tells) → (stage : Stage) → StandsFor told B.view session.old.engine stage.world → session.old.moment ≡ stage.now
         → IsSession asks_of (StandsFor told B.view session.new.engine) told session.old.engine.journal.size reader.old.budget (B.view session.new.engine.bank)
-        (seen I.left I.faults O.written O.faults B.faults B.view input.old output.old session.old.engine.bank)
-        (seen I.left I.faults O.written O.faults B.faults B.view input.new output.new session.new.engine.bank)
+        (seen I.left I.faults O.written O.faults F.texts F.faults B.faults B.view input.old output.old folder.old session.old.engine.bank)
+        (seen I.left I.faults O.written O.faults F.texts F.faults B.faults B.view input.new output.new folder.new session.new.engine.bank)
         stage session.new.marks.items (first_of session.new.status (status_of result)) }
     // Time goes on.
     ensures passes { (told : Bool) → (IsTrue told → IsTrue B.tells) → (stage : Stage) → StandsFor told B.view session.old.engine stage.world → session.old.moment ≡ stage.now
         → IsTrue told → Passes (B.view session.old.engine.bank) (B.view session.new.engine.bank) }
     ensures size { session.new.engine.journal.size ≡ session.old.engine.journal.size }
+    ensures folder_texts { F.texts folder.new ≡ F.texts folder.old }
+    ensures folder_later { F.faults folder.old ≤ F.faults folder.new }
     ensures source_later { I.faults input.old ≤ I.faults input.new }
     ensures sink_later { O.faults output.old ≤ O.faults output.new }
     ensures bank_later { B.faults session.old.engine.bank ≤ B.faults session.new.engine.bank }
@@ -71,7 +75,7 @@ pub fn converse<B: Bank, P: Drop, I: Source, O: Sink>(
     'lines: loop {
         match hear(alloc, reader, input) {
             Heard::Skipped => {}
-            Heard::Asks(asked) => match one_round(alloc, session, asked, output) {
+            Heard::Asks(asked) => match one_round(alloc, session, folder, asked, output) {
                 Some(ending) => return ending,
                 None => {}
             },
@@ -135,8 +139,8 @@ fn hand_back<B: Bank, P: Drop>(session: Session<B, P>, code: u8) -> Outcome<B, P
 }
 
 /// Answers the lines of an input over a store, whose site is reopened from its journal. The run begins at the moment of the
-/// site's last step. At most `budget` bytes are read, and one beyond to see that there are more. The bank and the patterns
-/// are handed back at every status.
+/// site's last step. At most `budget` bytes are read, and one beyond to see that there are more. The folder is read at each
+/// `configure`. The bank and the patterns are handed back at every status.
 pub fn run_lines<B: Bank, C: Clock, F: Folder, P: Patterns, I: Source, O: Sink>(
     alloc: Global,
     bank: B,
@@ -151,24 +155,24 @@ pub fn run_lines<B: Bank, C: Clock, F: Folder, P: Patterns, I: Source, O: Sink>(
     // written, what ended the run, and what each crash meanwhile may leave.
     ensures outcome { (told : Bool) → (IsTrue told → IsTrue B.tells) → (before : Seq HistoryStep) → (IsTrue told → IsSettled journal_bytes (B.view bank) before)
         → IsOutcome told budget (B.view bank) (B.view result.bank)
-        (seen I.left I.faults O.written O.faults B.faults B.view input.old output.old bank)
-        (seen I.left I.faults O.written O.faults B.faults B.view input.new output.new result.bank)
+        (seen I.left I.faults O.written O.faults F.texts F.faults B.faults B.view input.old output.old folder.old bank)
+        (seen I.left I.faults O.written O.faults F.texts F.faults B.faults B.view input.new output.new folder.new result.bank)
         before result.marks result.status }
     // The causes of the status, over any store, and what the statuses 0, 2 and 7 mean.
     ensures status { HasStatus B.tells ((B.view bank).content 0) budget
-        (seen I.left I.faults O.written O.faults B.faults B.view input.old output.old bank)
-        (seen I.left I.faults O.written O.faults B.faults B.view input.new output.new result.bank)
+        (seen I.left I.faults O.written O.faults F.texts F.faults B.faults B.view input.old output.old folder.old bank)
+        (seen I.left I.faults O.written O.faults F.texts F.faults B.faults B.view input.new output.new folder.new result.bank)
         result.status }
     // The journal of a settled store is never bad.
     ensures good { IsTrue B.tells → (before : Seq HistoryStep) → IsSettled journal_bytes (B.view bank) before → result.status ≢ 2 }
     ensures patterns { result.patterns ≡ patterns }
     ensures clock { clock.new ≡ clock.old }
-    ensures folder { folder.new ≡ folder.old }
+    ensures folder { F.texts folder.new ≡ F.texts folder.old }
+    ensures folder_later { F.faults folder.old ≤ F.faults folder.new }
     ensures source_beside { I.beside input.new ≡ I.beside input.old }
     ensures sink_beside { O.beside output.new ≡ O.beside output.old }
 {
     let _ = clock;
-    let _ = folder;
     let engine = match Engine::reopen(alloc, bank, patterns, JOURNAL_BYTES) {
         Ok(engine) => engine,
         Err(shut) => {
@@ -196,6 +200,6 @@ pub fn run_lines<B: Bank, C: Clock, F: Folder, P: Patterns, I: Source, O: Sink>(
     let Ok(mut reader) = Reader::new(alloc, budget) else {
         return hand_back(session, 9);
     };
-    let ending = converse(alloc, &mut session, &mut reader, input, output);
+    let ending = converse(alloc, &mut session, folder, &mut reader, input, output);
     hand_back(session, code(ending))
 }

@@ -1,15 +1,18 @@
 -- Each step that is answered may come: `answered`. It is of the answer's moment, and has the bytes that it says.
 use Rattle.std.proofs.Common.{◌≡◌, ℕ, ◌≤◌, ◌<◌, ◌^◌, List, length, refl, Option, Some, None}
 use Rattle.records.specs.declared.event.Event.{Event}
-use Rattle.records.specs.declared.event.Event.TheVariants.{Put as PutEvent, Read as ReadEvent, Remove as RemoveEvent}
+use Rattle.records.specs.declared.event.Event.TheVariants.{Put as PutEvent, Read as ReadEvent, Remove as RemoveEvent, Configure as ConfigureEvent}
 use Rattle.records.specs.declared.file.FileRec.{FileRec}
+use Rattle.records.specs.declared.file.SiteTexts.{SiteTexts}
+use Rattle.records.specs.declared.reply.Reply.{Reply}
 use Rattle.records.specs.declared.reply.Rule.{Rule}
 use Rattle.site_history.specs.Site.{Site, file_at}
 use Rattle.site_history.specs.Steps.{HistoryStep, IsLegal, HasBytes}
-use Rattle.site_history.specs.Answers.{put_rule, put_answer_by, read_answer_of, remove_answer_of, answer_to}
+use Rattle.site_history.specs.Answers.{put_rule, put_answer_by, read_answer_of, remove_answer_of, configure_refusal, configure_answer_by, answer_to}
 use Rattle.site_history.proofs.SiteLaws.{IsOrderly, found-file}
 use Rattle.site_history.proofs.Puts.{put_legal}
 use Rattle.site_history.proofs.Accesses.{accessed_legal, removed_legal}
+use Rattle.site_history.proofs.Configuring.{configure-admitted, configure-legal}
 
 -- a step that may come at a moment
 pub record MayCome (site : Site) (moment : ℕ) (made : HistoryStep) : Type 0 where
@@ -35,9 +38,16 @@ module _ (count : ℕ) (site : Site) (orderly : IsOrderly count site) (moment : 
   remove_by path None e = tt
   remove_by path (Some file) e = record { legal = removed_legal count site file (found-file count site orderly path file e).0 moment later range; bytes = refl; moment_is = refl }
 
+  configure_by : (texts : SiteTexts) (o : Option Reply) → configure_refusal site.fields texts ≡ o → StepMayCome site moment (configure_answer_by o moment texts).step
+  configure_by texts (Some reply) e = tt
+  configure_by texts None e =
+      let admitted = configure-admitted site.fields texts e in
+      record { legal = configure-legal site moment texts admitted.no_file admitted.within admitted.read later range; bytes = refl; moment_is = refl }
+
   -- the step of an answer
   pub answered : (event : Event) → StepMayCome site moment (answer_to site moment event).step
   answered (PutEvent path owner group bytes) = put_by path owner group bytes (put_rule site.fields path owner group (length bytes)) refl
   answered (ReadEvent path upto) = read_by path upto (file_at path site.fields.files) refl
   answered (RemoveEvent path) = remove_by path (file_at path site.fields.files) refl
+  answered (ConfigureEvent texts) = configure_by texts (configure_refusal site.fields texts) refl
   answered _ = tt

@@ -20,5 +20,6 @@ pub mod RunRanges
 pub mod StepRanges
 pub mod Puts
 pub mod Accesses
+pub mod Configuring
 pub mod Turns
 pub mod Answered

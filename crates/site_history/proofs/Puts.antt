@@ -10,7 +10,7 @@ use Rattle.records.specs.Paths.{is_legal_path, is_legal_name}
 use Rattle.records.specs.Ranges.{IsInode}
 use Rattle.cache_space.specs.Blocks.{blocks_for, free_blocks, lowest_runs}
 use Rattle.cache_space.proofs.LowestRuns.{lowest_runs-maximal, lowest_runs-free, blocks_in-lowest_runs, lowest_runs-there}
-use Rattle.site_history.specs.Site.{Fields, Site, file_at, held_runs}
+use Rattle.site_history.specs.Site.{Fields, Site, file_at, held_runs, cache_blocks}
 use Rattle.site_history.specs.Steps.{IsLegalPut, IsLegal, HasBytes, inode_for}
 use Rattle.site_history.specs.Answers.{put_rule, put_for, put_made, put_step, is_full, lacks_space}
 use Rattle.site_history.proofs.RunRanges.{lowest_runs-few, maximal-small}
@@ -24,7 +24,7 @@ pub record IsAdmitted (fields : Fields) (path owner group : List ℕ) (size : �
   pub legal_group : IsTrue (is_legal_name group)
   pub small : size ≤ 16777216
   pub fits : MatchOption (file_at path fields.files) ((length fields.files < 65536) × (fields.next_inode ≤ 4294967294)) (λ _. Unit {0})
-  pub space : blocks_for size ≤ length (free_blocks fields.blocks (held_runs fields.files))
+  pub space : blocks_for size ≤ length (free_blocks (cache_blocks fields) (held_runs fields.files))
 
 fits_by : (fields : Fields) (o : Option FileRec) → (is_none o && is_full fields) ≡ false → MatchOption o ((length fields.files < 65536) × (fields.next_inode ≤ 4294967294)) (λ _. Unit {0})
 fits_by fields None e =
@@ -75,9 +75,9 @@ module _ (fields : Fields) (path owner group : List ℕ) (size : ℕ) where
     small = a.small;
     inode = refl;
     fits = a.fits;
-    maximal = lowest_runs-maximal fields.blocks (held_runs fields.files) (blocks_for size);
-    free = lowest_runs-free fields.blocks (held_runs fields.files) (blocks_for size);
-    blocks = blocks_in-lowest_runs fields.blocks (held_runs fields.files) (blocks_for size) a.space;
+    maximal = lowest_runs-maximal (cache_blocks fields) (held_runs fields.files) (blocks_for size);
+    free = lowest_runs-free (cache_blocks fields) (held_runs fields.files) (blocks_for size);
+    blocks = blocks_in-lowest_runs (cache_blocks fields) (held_runs fields.files) (blocks_for size) a.space;
   }
 
 -- in a site after some history
@@ -91,9 +91,9 @@ module _ (count : ℕ) (site : Site) (orderly : IsOrderly count site) (path owne
   put_legal moment later range =
       let a = admitted site.fields path owner group size rule in (
         put_in_range (put_for site.fields path owner group size) a.small a.legal_path a.legal_owner a.legal_group
-            (lowest_runs-few site.fields.blocks (held_runs site.fields.files) (blocks_for size)) moment range put_inode
-            (maximal-small site.fields.blocks (lowest_runs site.fields.blocks (held_runs site.fields.files) (blocks_for size)) (omega (arith, orderly.blocks))
-            (lowest_runs-maximal site.fields.blocks (held_runs site.fields.files) (blocks_for size)) (lowest_runs-there site.fields.blocks (held_runs site.fields.files) (blocks_for size))),
+            (lowest_runs-few (cache_blocks site.fields) (held_runs site.fields.files) (blocks_for size)) moment range put_inode
+            (maximal-small (cache_blocks site.fields) (lowest_runs (cache_blocks site.fields) (held_runs site.fields.files) (blocks_for size)) (omega (arith, orderly.blocks))
+            (lowest_runs-maximal (cache_blocks site.fields) (held_runs site.fields.files) (blocks_for size)) (lowest_runs-there (cache_blocks site.fields) (held_runs site.fields.files) (blocks_for size))),
         later,
         put_for_legal site.fields path owner group size a,
       )

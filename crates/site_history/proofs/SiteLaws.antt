@@ -10,17 +10,20 @@ use Rattle.std.proofs.lemmas.Bool.{eqb-true}
 use Rattle.std.proofs.lemmas.Slice.Eq.{bytes_eq-Decides}
 use Rattle.records.specs.declared.file.FileRec.{FileRec}
 use Rattle.records.specs.declared.file.Run.{Run}
+use Rattle.records.specs.declared.file.SiteTexts.{SiteTexts}
 use Rattle.records.specs.declared.step.StepKind.{StepKind}
-use Rattle.records.specs.declared.step.StepKind.TheVariants.{Put, Accessed, Removed}
+use Rattle.records.specs.declared.step.StepKind.TheVariants.{Configured, Put, Accessed, Removed}
 use Rattle.records.specs.Paths.{is_legal_path, is_legal_name}
 use Rattle.records.specs.Ranges.{IsInode}
 use Rattle.records.proofs.InRange.{ranges}
+use Rattle.configuration.specs.Readings.{no_texts, blocks_of}
+use Rattle.configuration.proofs.Laws.{blocks-range}
 use Rattle.cache_space.specs.Blocks.{blocks_for}
 use Rattle.cache_space.specs.Space.{AreThere, AreDisjoint, AreMaximal, blocks_in}
 use Rattle.cache_space.proofs.HeldBlocks.{AreThere-nil}
 use Rattle.cache_space.proofs.LowestRuns.{AreMaximal-disjoint}
-use Rattle.site_history.specs.Site.{FileBytes, Site, first_site, file_at, held_runs, with_file, with_bytes, bytes_of}
-use Rattle.site_history.specs.Steps.{HistoryStep, PutOf, stored_file, put_effect, accessed_by, without_file, without_bytes, effect, IsLegalPut, IsLegal, HasBytes, IsThere}
+use Rattle.site_history.specs.Site.{FileBytes, Site, first_site, file_at, held_runs, with_file, with_bytes, bytes_of, cache_blocks}
+use Rattle.site_history.specs.Steps.{HistoryStep, PutOf, stored_file, put_effect, accessed_by, without_file, without_bytes, configured_effect, effect, IsLegalPut, IsLegal, HasBytes, IsThere}
 use Rattle.site_history.specs.Histories.{after, IsHistory}
 use Rattle.site_history.proofs.HistoryLaws.{history-counts}
 use Rattle.site_history.proofs.FileLaws.{AreBelow, AreRisingFrom, are_below-more, with_file-new, with_file-set, without_file-remove, rising_at, below_at, rising-push, rising-set, rising-accessed, rising-without, all-push, all-below, all-set, all-accessed, all-without, all_at, length-without}
@@ -46,17 +49,17 @@ pub record IsKept (count moment : ℕ) (contents : List FileBytes) (file : FileR
   pub resided : file.resided ≤ moment
 
 -- What holds of a site after so many steps: inodes rise from 1 on below the next one, which is a number of four bytes; the
--- cache has its first size, each file is kept, and no block is in two runs.
+-- cache has 1 to 16,777,216 blocks, each file is kept, and no block is in two runs.
 pub record IsOrderly (count : ℕ) (site : Site) : Type 0 where
   pub rising : AreRisingFrom 1 site.fields.files
   pub below : AreBelow site.fields.next_inode site.fields.files
   pub from_one : 1 ≤ site.fields.next_inode
   pub small : site.fields.next_inode ≤ 4294967295
   pub moment : site.fields.moment < 2 ^ 40
-  pub blocks : site.fields.blocks ≡ 16384
+  pub blocks : (1 ≤ cache_blocks site.fields) × (cache_blocks site.fields ≤ 16777216)
   pub few : length site.fields.files ≤ 65536
   pub files : AllByRecursion (IsKept count site.fields.moment site.contents) site.fields.files
-  pub there : AreThere site.fields.blocks (held_runs site.fields.files)
+  pub there : AreThere (cache_blocks site.fields) (held_runs site.fields.files)
   pub disjoint : AreDisjoint (held_runs site.fields.files)
 
 -- a file is kept by a later step that leaves it its bytes
@@ -97,9 +100,9 @@ kept-accessed count moment later contents file le kept = record {
   resided = omega (arith, kept.resided);
 }
 
--- the site of this list of files
-abbrev site_with : List FileRec → ℕ → ℕ → ℕ → List FileBytes → Site
-site_with files next moment blocks contents = record { fields = record { files = files; next_inode = next; moment = moment; blocks = blocks }; contents = contents }
+-- the site of this list of files, configured by these texts
+abbrev site_with : List FileRec → ℕ → ℕ → SiteTexts → List FileBytes → Site
+site_with files next moment texts contents = record { fields = record { files = files; next_inode = next; moment = moment; texts = texts }; contents = contents }
 
 module _ (count : ℕ) (site : Site) (orderly : IsOrderly count site) (later : ℕ) (in_time : site.fields.moment ≤ later) (in_range : later < 2 ^ 40) where
   -- a put of a new file
@@ -128,7 +131,7 @@ module _ (count : ℕ) (site : Site) (orderly : IsOrderly count site) (later : �
     }
 
     new_orderly : put.inode ≡ site.fields.next_inode → length site.fields.files < 65536 → site.fields.next_inode ≤ 4294967294
-        → IsOrderly (count + 1) (site_with (site.fields.files ++ stored_file None later put ∷ []) (site.fields.next_inode + 1) later site.fields.blocks (with_bytes put_bytes site.contents))
+        → IsOrderly (count + 1) (site_with (site.fields.files ++ stored_file None later put ∷ []) (site.fields.next_inode + 1) later site.fields.texts (with_bytes put_bytes site.contents))
     new_orderly inode few fits =
         let below : AreBelow put.inode site.fields.files = subst (λ (n : ℕ). AreBelow n site.fields.files) (sym inode) orderly.below in
         record {
@@ -142,7 +145,7 @@ module _ (count : ℕ) (site : Site) (orderly : IsOrderly count site) (later : �
           few = omega (arith, few, length-append site.fields.files (stored_file None later put ∷ []));
           files = all-push (IsKept (count + 1) later (with_bytes put_bytes site.contents)) site.fields.files (stored_file None later put)
               (all-below (IsKept count site.fields.moment site.contents) (IsKept (count + 1) later (with_bytes put_bytes site.contents)) put.inode site.fields.files below others orderly.files) new_kept;
-          there = pushed-there site.fields.blocks site.fields.files (stored_file None later put) orderly.there legal.free.0;
+          there = pushed-there (cache_blocks site.fields) site.fields.files (stored_file None later put) orderly.there legal.free.0;
           disjoint = pushed-disjoint site.fields.files (stored_file None later put) orderly.disjoint (AreMaximal-disjoint put.runs legal.maximal) legal.free.1;
         }
 
@@ -169,7 +172,7 @@ module _ (count : ℕ) (site : Site) (orderly : IsOrderly count site) (later : �
       same_inode : (get_or site.fields.files stands.place file).inode ≡ file.inode
       same_inode = ap (λ (f : FileRec). f.inode) (stands.here file)
 
-      replaced_orderly : IsOrderly (count + 1) (site_with (set site.fields.files stands.place (stored_file (Some file) later put)) site.fields.next_inode later site.fields.blocks (with_bytes put_bytes site.contents))
+      replaced_orderly : IsOrderly (count + 1) (site_with (set site.fields.files stands.place (stored_file (Some file) later put)) site.fields.next_inode later site.fields.texts (with_bytes put_bytes site.contents))
       replaced_orderly = record {
         rising = rising-set 1 site.fields.files stands.place file (stored_file (Some file) later put) same_inode stands.within orderly.rising;
         below = all-set (λ (f : FileRec). f.inode < site.fields.next_inode) (λ (f : FileRec). f.inode < site.fields.next_inode) 1 (stored_file (Some file) later put) site.fields.files stands.place file
@@ -181,17 +184,17 @@ module _ (count : ℕ) (site : Site) (orderly : IsOrderly count site) (later : �
         few = omega (arith, orderly.few, length-set site.fields.files stands.place (stored_file (Some file) later put));
         files = all-set (IsKept count site.fields.moment site.contents) (IsKept (count + 1) later (with_bytes put_bytes site.contents)) 1 (stored_file (Some file) later put) site.fields.files stands.place file
             orderly.rising stands.within same_inode (λ f other k. others f (λ e. other (e ∙ inode)) k) replaced_kept orderly.files;
-        there = replaced-there site.fields.blocks site.fields.files stands.place file stands.within (stored_file (Some file) later put) orderly.there legal.free.0;
-        disjoint = replaced-disjoint site.fields.blocks site.fields.files stands.place file stands.within (stored_file (Some file) later put) orderly.disjoint (AreMaximal-disjoint put.runs legal.maximal) legal.free.1;
+        there = replaced-there (cache_blocks site.fields) site.fields.files stands.place file stands.within (stored_file (Some file) later put) orderly.there legal.free.0;
+        disjoint = replaced-disjoint (cache_blocks site.fields) site.fields.files stands.place file stands.within (stored_file (Some file) later put) orderly.disjoint (AreMaximal-disjoint put.runs legal.maximal) legal.free.1;
       }
 
     put_by : (o : Option FileRec) → file_at put.path site.fields.files ≡ o
         → put.inode ≡ option_map_or (λ (file : FileRec). file.inode) o site.fields.next_inode
         → MatchOption o ((length site.fields.files < 65536) × (site.fields.next_inode ≤ 4294967294)) (λ _. Unit {0})
         → IsOrderly (count + 1) (site_with (with_file (stored_file o later put) site.fields.files)
-        (option_map_or (λ (file : FileRec). site.fields.next_inode) o (site.fields.next_inode + 1)) later site.fields.blocks (with_bytes put_bytes site.contents))
+        (option_map_or (λ (file : FileRec). site.fields.next_inode) o (site.fields.next_inode + 1)) later site.fields.texts (with_bytes put_bytes site.contents))
     put_by None e inode fits =
-        subst (λ (l : List FileRec). IsOrderly (count + 1) (site_with l (site.fields.next_inode + 1) later site.fields.blocks (with_bytes put_bytes site.contents)))
+        subst (λ (l : List FileRec). IsOrderly (count + 1) (site_with l (site.fields.next_inode + 1) later site.fields.texts (with_bytes put_bytes site.contents)))
         (sym (with_file-new (stored_file None later put) site.fields.files (subst (λ (n : ℕ). AreBelow n site.fields.files) (sym inode) orderly.below)))
         (new_orderly inode fits.0 fits.1)
     put_by (Some file) e inode fits =
@@ -199,7 +202,7 @@ module _ (count : ℕ) (site : Site) (orderly : IsOrderly count site) (later : �
         let kept : IsKept count site.fields.moment site.contents file =
         subst (λ (f : FileRec). IsKept count site.fields.moment site.contents f) (found.0.here file)
         (all_at (IsKept count site.fields.moment site.contents) site.fields.files found.0.place file orderly.files found.0.within) in
-        subst (λ (l : List FileRec). IsOrderly (count + 1) (site_with l site.fields.next_inode later site.fields.blocks (with_bytes put_bytes site.contents)))
+        subst (λ (l : List FileRec). IsOrderly (count + 1) (site_with l site.fields.next_inode later site.fields.texts (with_bytes put_bytes site.contents)))
         (sym (with_file-set 1 (stored_file (Some file) later put) site.fields.files found.0.place file orderly.rising found.0.within (ap (λ (f : FileRec). f.inode) (found.0.here file))))
         (replaced_orderly file found.0 inode kept.path kept)
 
@@ -207,7 +210,7 @@ module _ (count : ℕ) (site : Site) (orderly : IsOrderly count site) (later : �
     put_orderly = put_by (file_at put.path site.fields.files) refl legal.inode legal.fits
 
   -- a read
-  accessed_orderly : (inode : ℕ) → IsOrderly (count + 1) (site_with (map (accessed_by later inode) site.fields.files) site.fields.next_inode later site.fields.blocks site.contents)
+  accessed_orderly : (inode : ℕ) → IsOrderly (count + 1) (site_with (map (accessed_by later inode) site.fields.files) site.fields.next_inode later site.fields.texts site.contents)
   accessed_orderly inode = record {
     rising = rising-accessed 1 later inode site.fields.files orderly.rising;
     below = all-accessed (λ (f : FileRec). f.inode < site.fields.next_inode) (λ (f : FileRec). f.inode < site.fields.next_inode) later inode site.fields.files (λ f lt. lt) (λ f lt. lt) orderly.below;
@@ -219,13 +222,13 @@ module _ (count : ℕ) (site : Site) (orderly : IsOrderly count site) (later : �
     files = all-accessed (IsKept count site.fields.moment site.contents) (IsKept (count + 1) later site.contents) later inode site.fields.files
         (λ f kept. kept-accessed count site.fields.moment later site.contents f in_time kept)
         (λ f kept. kept-later count site.fields.moment later site.contents site.contents f in_time refl kept) orderly.files;
-    there = subst (λ (l : List Run). AreThere site.fields.blocks l) (sym (held-accessed later inode site.fields.files)) orderly.there;
+    there = subst (λ (l : List Run). AreThere (cache_blocks site.fields) l) (sym (held-accessed later inode site.fields.files)) orderly.there;
     disjoint = subst (λ (l : List Run). AreDisjoint l) (sym (held-accessed later inode site.fields.files)) orderly.disjoint;
   }
 
   -- a removal
   removed_orderly : (inode : ℕ) → IsThere site.fields inode
-      → IsOrderly (count + 1) (site_with (without_file inode site.fields.files) site.fields.next_inode later site.fields.blocks (without_bytes inode site.contents))
+      → IsOrderly (count + 1) (site_with (without_file inode site.fields.files) site.fields.next_inode later site.fields.texts (without_bytes inode site.contents))
   removed_orderly inode there =
       let found = any-stands (λ (f : FileRec). f.inode == inode) site.fields.files there in
       let same : (get_or site.fields.files found.1.place found.0).inode ≡ inode = ap (λ (f : FileRec). f.inode) (found.1.here found.0) ∙ eqb-true found.0.inode inode found.2 in
@@ -240,11 +243,26 @@ module _ (count : ℕ) (site : Site) (orderly : IsOrderly count site) (later : �
         few = omega (arith, orderly.few, length-without inode site.fields.files);
         files = all-without (IsKept count site.fields.moment site.contents) (IsKept (count + 1) later (without_bytes inode site.contents)) inode site.fields.files
             (λ f other kept. kept-later count site.fields.moment later site.contents (without_bytes inode site.contents) f in_time (bytes_of-without inode site.contents f.inode other) kept) orderly.files;
-        there = subst (λ (l : List FileRec). AreThere site.fields.blocks (held_runs l)) (sym is)
-            (removed-there site.fields.blocks site.fields.files found.1.place found.0 found.1.within orderly.there);
+        there = subst (λ (l : List FileRec). AreThere (cache_blocks site.fields) (held_runs l)) (sym is)
+            (removed-there (cache_blocks site.fields) site.fields.files found.1.place found.0 found.1.within orderly.there);
         disjoint = subst (λ (l : List FileRec). AreDisjoint (held_runs l)) (sym is)
-            (removed-disjoint site.fields.blocks site.fields.files found.1.place found.0 found.1.within orderly.disjoint);
+            (removed-disjoint (cache_blocks site.fields) site.fields.files found.1.place found.0 found.1.within orderly.disjoint);
       }
+
+  -- a site without a file is configured anew
+  configured_orderly : (texts : SiteTexts) → site.fields.files ≡ [] → IsOrderly (count + 1) (record { fields = configured_effect later texts site.fields; contents = site.contents })
+  configured_orderly texts none = subst (λ (l : List FileRec). IsOrderly (count + 1) (site_with l site.fields.next_inode later texts site.contents)) (sym none) (record {
+    rising = tt;
+    below = tt;
+    from_one = orderly.from_one;
+    small = orderly.small;
+    moment = in_range;
+    blocks = blocks-range texts;
+    few = omega arith;
+    files = tt;
+    there = AreThere-nil (blocks_of texts);
+    disjoint = tt;
+  })
 
 step_orderly : (count : ℕ) (site : Site) (moment : ℕ) (kind : StepKind) (bytes : List ℕ) → IsOrderly count site
     → IsLegal site.fields (record { moment = moment; kind = kind }) → HasBytes (record { step = record { moment = moment; kind = kind }; bytes = bytes })
@@ -256,6 +274,8 @@ step_orderly count site moment (Accessed inode) bytes orderly legal has =
     accessed_orderly count site orderly moment legal.1 (ranges (record { moment = moment; kind = Accessed inode }) legal.0).0 inode
 step_orderly count site moment (Removed inode) bytes orderly legal has =
     removed_orderly count site orderly moment legal.1 (ranges (record { moment = moment; kind = Removed inode }) legal.0).0 inode legal.2
+step_orderly count site moment (Configured texts) bytes orderly legal has =
+    configured_orderly count site orderly moment legal.1 (ranges (record { moment = moment; kind = Configured texts }) legal.0).0 texts legal.2.no_file
 step_orderly count site moment _ bytes orderly legal has = absurd legal.2
 
 first_orderly : IsOrderly 0 first_site
@@ -265,10 +285,10 @@ first_orderly = record {
   from_one = omega arith;
   small = omega arith;
   moment = omega arith;
-  blocks = refl;
+  blocks = blocks-range no_texts;
   few = omega arith;
   files = tt;
-  there = AreThere-nil 16384;
+  there = AreThere-nil (blocks_of no_texts);
   disjoint = tt;
 }
 
@@ -288,7 +308,7 @@ pub record IsFileOf (count : ℕ) (site : Site) (file : FileRec) : Type 0 where
   pub below : file.inode < site.fields.next_inode
   pub finds : find (λ (f : FileRec). f.inode == file.inode) site.fields.files ≡ Some file
   pub there : IsThere site.fields file.inode
-  pub runs : AreThere site.fields.blocks file.runs
+  pub runs : AreThere (cache_blocks site.fields) file.runs
 
 module _ (count : ℕ) (site : Site) (orderly : IsOrderly count site) where
   -- the file at a place
@@ -306,7 +326,7 @@ module _ (count : ℕ) (site : Site) (orderly : IsOrderly count site) where
         below = omega (arith, same, high);
         finds = find-inode 1 file.inode site.fields.files stands.place file orderly.rising stands.within same ∙ ap (λ (f : FileRec). Some f) e;
         there = any-inode file.inode site.fields.files stands.place file stands.within same;
-        runs = subst (λ (f : FileRec). AreThere site.fields.blocks f.runs) e (there-at site.fields.blocks site.fields.files stands.place file stands.within orderly.there);
+        runs = subst (λ (f : FileRec). AreThere (cache_blocks site.fields) f.runs) e (there-at (cache_blocks site.fields) site.fields.files stands.place file stands.within orderly.there);
       }
 
   pub indexed-file : (i : ℕ) (d : FileRec) → i < length site.fields.files → IsFileOf count site (get_or site.fields.files i d)

@@ -7,7 +7,7 @@ use Rattle.std.proofs.lemmas.List.{take_all}
 use Rattle.bank.specs.View.{View}
 use Rattle.records.specs.declared.file.FileRec.{FileRec}
 use Rattle.records.specs.declared.step.StepKind.{StepKind}
-use Rattle.records.specs.declared.step.StepKind.TheVariants.{Put, Accessed, Removed}
+use Rattle.records.specs.declared.step.StepKind.TheVariants.{Configured, Put, Accessed, Removed}
 use Rattle.site_history.specs.Site.{FileBytes, Site, file_at, with_file, with_bytes, bytes_of}
 use Rattle.site_history.specs.Steps.{HistoryStep, PutOf, stored_file, inode_for, accessed_by, without_file, without_bytes, put_effect, effect, IsLegal, HasBytes}
 use Rattle.site_history.specs.Images.{Extent, extents_over, extents_of, extents}
@@ -119,4 +119,5 @@ effect_stands v made site distinct legal bytes h ready = by_kind made.step.kind 
         put_stands v moment (record { inode = inode; path = path; owner = owner; group = group; length = size; runs = runs }) l site distinct legal.2.inode long h ready
     by_kind (Accessed inode) moment l legal long ready = accessed_stands v moment inode site.contents site.fields.files h
     by_kind (Removed inode) moment l legal long ready = removed_stands v inode site.contents site.fields.files h
+    by_kind (Configured texts) moment l legal long ready = h
     by_kind _ moment l legal long ready = absurd legal.2

@@ -1,11 +1,13 @@
--- The steps of puts, reads and removals are in range, and short enough for a record. `put_in_range` and `put_short` serve the
--- code that writes a put's step down, which knows the rules that it tested; `bare_in_range` and `bare_short` that of a read and
--- of a removal; `legal-payload` any step that may come.
+-- The steps are in range, and short enough for a record. `put_in_range` and `put_short` serve the code that writes a put's step
+-- down, which knows the rules that it tested; `configured-range` and `configured-short` that of a configuration, where each text
+-- is within its limit; `accessed_in_range` and `removed_in_range` that of a read and of a removal; `legal-payload` any step that
+-- may come.
 use Rattle.std.proofs.Common.{◌≡◌, ℕ, ◌<◌, ◌≤◌, ◌^◌, List, length, arith, true}
 use Rattle.std.specs.Prelude.{IsTrue}
 use Rattle.std.specs.List.{AllByRecursion}
 use Rattle.std.proofs.lemmas.Bool.Decides.{nat_tests}
 use Rattle.records.specs.Paths.{is_legal_path, is_legal_name}
+use Rattle.records.specs.declared.file.SiteTexts.{SiteTexts}
 use Rattle.records.specs.Lengths.{step_length}
 use Rattle.records.specs.Ranges.{IsRun, IsInode}
 use Rattle.records.specs.Written.{written, InRange}
@@ -13,7 +15,8 @@ use Rattle.records.proofs.Lengths.{length-written, written_some}
 use Rattle.records.proofs.InRange.{in_range}
 use Rattle.records.specs.declared.step.Step.{Step}
 use Rattle.records.specs.declared.step.StepKind.{StepKind}
-use Rattle.records.specs.declared.step.StepKind.TheVariants.{Put, Accessed, Removed}
+use Rattle.records.specs.declared.step.StepKind.TheVariants.{Configured, Put, Accessed, Removed}
+use Rattle.configuration.specs.Readings.{AreWithin}
 use Rattle.cache_space.specs.Blocks.{blocks_for}
 use Rattle.journal.specs.Records.{IsPayload}
 use Rattle.site_history.specs.Site.{Fields}
@@ -62,6 +65,19 @@ accessed_short moment inode = omega arith
 pub removed_short : (moment inode : ℕ) → step_length (record { moment = moment; kind = Removed inode }) ≤ 1048576
 removed_short moment inode = omega arith
 
+-- a configuration by texts within their limits
+pub configured-range : (moment : ℕ) (texts : SiteTexts) → moment < 2 ^ 40 → AreWithin texts → InRange (record { moment = moment; kind = Configured texts })
+configured-range moment texts range within = in_range (record { moment = moment; kind = Configured texts }) range (
+  omega (arith, within.0),
+  omega (arith, within.1),
+  omega (arith, within.2),
+  omega (arith, within.3),
+  omega (arith, within.4),
+)
+
+pub configured-short : (moment : ℕ) (texts : SiteTexts) → AreWithin texts → step_length (record { moment = moment; kind = Configured texts }) ≤ 1048576
+configured-short moment texts within = omega (arith, within.0, within.1, within.2, within.3, within.4)
+
 -- the written form of a short step is a payload
 pub short-payload : (step : Step) → step_length step ≤ 1048576 → IsPayload (written step)
 short-payload step short = (written_some step, omega (arith, length-written step, short))
@@ -72,6 +88,7 @@ legal_short fields moment (Put inode path owner group size runs) legal =
     (omega (arith, maximal-few runs legal.2.maximal, legal.2.blocks)) moment
 legal_short fields moment (Accessed inode) legal = accessed_short moment inode
 legal_short fields moment (Removed inode) legal = removed_short moment inode
+legal_short fields moment (Configured texts) legal = configured-short moment texts legal.2.within
 legal_short fields moment _ legal = absurd legal.2
 
 -- a step that may come has a written form that a record takes

@@ -1,26 +1,28 @@
 -- What one event does to a history, in the form of a turn: a lemma for each exit of the code that serves it. First what the
 -- answer to the event is (`put-refused`, `put-stored`, `read-missing`, `read-found`, `remove-missing`, `remove-found`,
--- `other-answer`), and from that the turn: `refused-turn` and `line-turn` where no step is made, `full-turn` where the journal
--- has no room, `made-turn` where the step is acknowledged, `owes-turn` where the journal failed, `stays-turn` where another area
--- did, `memory-turn` where memory was wanting.
+-- `configure-refused`, `configure-made`, `other-answer`), and from that the turn: `refused-turn`, `conf-turn` and `line-turn`
+-- where no step is made, `full-turn` where the journal has no room, `made-turn` where the step is acknowledged, `owes-turn` where
+-- the journal failed, `stays-turn` where another area did, `memory-turn` where memory was wanting.
 use Rattle.std.proofs.Common.{◌≡◌, ℕ, ◌+◌, ◌<◌, ◌≤◌, List, [], ◌∷◌, ◌++◌, length, take, refl, sym, ◌∙◌, ap, subst, arith, Bool, true, false, cond, Option, Some, None}
 use Rattle.std.specs.Prelude.{is_none, IsTrue}
 use Rattle.std.proofs.lemmas.Bool.{le-leb, lt-leb, eq-eqb, ne_eqb}
 use Rattle.records.specs.declared.event.Event.{Event}
-use Rattle.records.specs.declared.event.Event.TheVariants.{Put as PutEvent, Read as ReadEvent, Remove as RemoveEvent}
+use Rattle.records.specs.declared.event.Event.TheVariants.{Put as PutEvent, Read as ReadEvent, Remove as RemoveEvent, Configure as ConfigureEvent}
 use Rattle.records.specs.declared.reply.Reply.{Reply}
 use Rattle.records.specs.declared.reply.Reply.TheVariants.{Stored, Done, Bytes, Refused, Line, NoMemory, JournalFull, BankFault}
 use Rattle.records.specs.declared.reply.Rule.{Rule}
 use Rattle.records.specs.declared.reply.Rule.TheVariants.{NoFile}
 use Rattle.records.specs.declared.reply.LineRefusal.TheVariants.{NotACommand}
 use Rattle.records.specs.declared.file.FileRec.{FileRec}
+use Rattle.records.specs.declared.file.SiteTexts.{SiteTexts}
 use Rattle.records.specs.declared.step.StepKind.{StepKind}
-use Rattle.records.specs.declared.step.StepKind.TheVariants.{Put, Accessed, Removed}
+use Rattle.records.specs.declared.step.StepKind.TheVariants.{Configured, Put, Accessed, Removed}
 use Rattle.records.specs.Written.{written}
+use Rattle.configuration.specs.declared.read.FileRefusal.{FileRefusal}
 use Rattle.site_history.specs.Site.{Site, file_at, bytes_of}
 use Rattle.site_history.specs.Steps.{HistoryStep, IsLegal, inode_for, effect}
 use Rattle.site_history.specs.Histories.{after, journal_length}
-use Rattle.site_history.specs.Answers.{Answer, refused, put_rule, put_step, put_answer_by, read_answer_of, remove_answer_of, bare_step, answer_to}
+use Rattle.site_history.specs.Answers.{Answer, refused, put_rule, put_step, put_answer_by, read_answer_of, remove_answer_of, bare_step, conf_refused, configure_refusal, configure_answer_by, answer_to}
 use Rattle.site_history.specs.Worlds.{World, at, has_room, answer_in, with_step, IsReply, Course, Goes, Stays, Owes, course_of, TurnBy, Turn}
 use Rattle.site_history.proofs.HistoryLaws.{after-push}
 
@@ -54,17 +56,28 @@ module _ (site : Site) (moment : ℕ) (path : List ℕ) where
       → answer_to site moment (RemoveEvent path) ≡ record { reply = Done file.inode; step = Some (bare_step moment (Removed file.inode)) }
   remove-found file e = ap (λ (o : Option FileRec). remove_answer_of o moment) e
 
+-- a configuration that is refused, and one that is made
+pub configure-refused : (site : Site) (moment : ℕ) (texts : SiteTexts) (reply : Reply) → configure_refusal site.fields texts ≡ Some reply
+    → answer_to site moment (ConfigureEvent texts) ≡ record { reply = reply; step = None }
+configure-refused site moment texts reply e = ap (λ (o : Option Reply). configure_answer_by o moment texts) e
+
+pub configure-made : (site : Site) (moment : ℕ) (texts : SiteTexts) → configure_refusal site.fields texts ≡ None
+    → answer_to site moment (ConfigureEvent texts) ≡ record { reply = Done 0; step = Some (bare_step moment (Configured texts)) }
+configure-made site moment texts e = ap (λ (o : Option Reply). configure_answer_by o moment texts) e
+
 -- no command
 abbrev pub no_command : Answer
 no_command = record { reply = Line NotACommand; step = None }
 
 -- an event of another kind
 pub other-answer : (site : Site) (moment : ℕ) (event : Event) → ((path owner group bytes : List ℕ) → event ≡ PutEvent path owner group bytes → ⊥)
-    → ((path : List ℕ) (upto : ℕ) → event ≡ ReadEvent path upto → ⊥) → ((path : List ℕ) → event ≡ RemoveEvent path → ⊥) → answer_to site moment event ≡ no_command
-other-answer site moment (PutEvent path owner group bytes) put read remove = absurd (put path owner group bytes refl)
-other-answer site moment (ReadEvent path upto) put read remove = absurd (read path upto refl)
-other-answer site moment (RemoveEvent path) put read remove = absurd (remove path refl)
-other-answer site moment _ put read remove = refl
+    → ((path : List ℕ) (upto : ℕ) → event ≡ ReadEvent path upto → ⊥) → ((path : List ℕ) → event ≡ RemoveEvent path → ⊥)
+    → ((texts : SiteTexts) → event ≡ ConfigureEvent texts → ⊥) → answer_to site moment event ≡ no_command
+other-answer site moment (PutEvent path owner group bytes) put read remove configure = absurd (put path owner group bytes refl)
+other-answer site moment (ReadEvent path upto) put read remove configure = absurd (read path upto refl)
+other-answer site moment (RemoveEvent path) put read remove configure = absurd (remove path refl)
+other-answer site moment (ConfigureEvent texts) put read remove configure = absurd (configure texts refl)
+other-answer site moment _ put read remove configure = refl
 
 -- The answer of a journal with and without room.
 
@@ -121,6 +134,13 @@ module _ (size : ℕ) (told : Bool) (history : List HistoryStep) (event : Event)
   refused-turn rule e = goes (refused rule) (Refused rule)
       (ap (λ (a : Answer). roomed size history a) e ∙ without_step size history (refused rule) refl) (is_reply told (Refused rule) (Refused rule) refl)
 
+  -- a command file is wrong
+  pub conf-turn : (refusal : FileRefusal) → answer_to (after history) moment event ≡ record { reply = conf_refused refusal; step = None }
+      → Turn size told history event moment area (conf_refused refusal) (at history moment)
+  conf-turn refusal e = goes (record { reply = conf_refused refusal; step = None }) (conf_refused refusal)
+      (ap (λ (a : Answer). roomed size history a) e ∙ without_step size history (record { reply = conf_refused refusal; step = None }) refl)
+      (is_reply told (conf_refused refusal) (conf_refused refusal) refl)
+
   -- it is no command
   pub line-turn : answer_to (after history) moment event ≡ no_command → Turn size told history event moment area (Line NotACommand) (at history moment)
   line-turn e = goes no_command (Line NotACommand)
@@ -171,6 +191,7 @@ effect-moment : (site : Site) (moment : ℕ) (kind : StepKind) (bytes : List ℕ
 effect-moment site moment (Put inode path owner group size runs) bytes legal = refl
 effect-moment site moment (Accessed inode) bytes legal = refl
 effect-moment site moment (Removed inode) bytes legal = refl
+effect-moment site moment (Configured texts) bytes legal = refl
 effect-moment site moment _ bytes legal = absurd legal.2
 
 -- the moment of a site is that of its last step

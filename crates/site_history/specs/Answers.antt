@@ -1,19 +1,22 @@
 -- What a site answers where nothing fails, and the step that the answer makes.
-use Rattle.std.specs.Prelude.{ℕ, ◌&&◌, ◌||◌, nat_le, nat_lt, Bool, not, if◌then◌else◌, Option, Some, None, is_none, List, [], length, take}
+use Rattle.std.specs.Prelude.{ℕ, ◌&&◌, ◌||◌, nat_le, nat_lt, Bool, not, if◌then◌else◌, Option, Some, None, is_none, option_map, List, [], length, take}
 use Rattle.records.specs.declared.event.Event.{Event}
-use Rattle.records.specs.declared.event.Event.TheVariants.{Put as PutEvent, Read as ReadEvent, Remove as RemoveEvent}
+use Rattle.records.specs.declared.event.Event.TheVariants.{Put as PutEvent, Read as ReadEvent, Remove as RemoveEvent, Configure as ConfigureEvent}
 use Rattle.records.specs.declared.reply.Reply.{Reply}
-use Rattle.records.specs.declared.reply.Reply.TheVariants.{Stored, Done, Bytes, Refused, Line}
+use Rattle.records.specs.declared.reply.Reply.TheVariants.{Stored, Done, Bytes, Refused, ConfRefused, Line}
 use Rattle.records.specs.declared.reply.Rule.{Rule}
-use Rattle.records.specs.declared.reply.Rule.TheVariants.{NoFile, BadPath, BadAttribute, TooLarge, TooMany, NoSpace}
+use Rattle.records.specs.declared.reply.Rule.TheVariants.{NoFile, BadPath, BadAttribute, TooLarge, TooMany, NoSpace, Running}
 use Rattle.records.specs.declared.reply.LineRefusal.TheVariants.{NotACommand}
 use Rattle.records.specs.declared.step.Step.{Step}
 use Rattle.records.specs.declared.step.StepKind.{StepKind}
-use Rattle.records.specs.declared.step.StepKind.TheVariants.{Put, Accessed, Removed}
+use Rattle.records.specs.declared.step.StepKind.TheVariants.{Configured, Put, Accessed, Removed}
 use Rattle.records.specs.declared.file.FileRec.{FileRec}
+use Rattle.records.specs.declared.file.SiteTexts.{SiteTexts}
 use Rattle.records.specs.Paths.{is_legal_path, is_legal_name}
+use Rattle.configuration.specs.declared.read.FileRefusal.{FileRefusal}
+use Rattle.configuration.specs.Readings.{are_within, refusal_of}
 use Rattle.cache_space.specs.Blocks.{blocks_for, free_blocks, lowest_runs}
-use Rattle.site_history.specs.Site.{Fields, FileBytes, Site, file_at, held_runs, bytes_of}
+use Rattle.site_history.specs.Site.{Fields, FileBytes, Site, file_at, held_runs, bytes_of, cache_blocks}
 use Rattle.site_history.specs.Steps.{HistoryStep, PutOf, inode_for}
 
 -- a reply, and the step that it makes, if it makes one
@@ -32,14 +35,14 @@ put_for fields path owner group size = record {
   owner = owner;
   group = group;
   length = size;
-  runs = lowest_runs fields.blocks (held_runs fields.files) (blocks_for size);
+  runs = lowest_runs (cache_blocks fields) (held_runs fields.files) (blocks_for size);
 }
 
 -- its step
 abbrev pub put_made : Fields → ℕ → List ℕ → List ℕ → List ℕ → ℕ → Step
 put_made fields moment path owner group size = record {
   moment = moment;
-  kind = Put (inode_for fields path) path owner group size (lowest_runs fields.blocks (held_runs fields.files) (blocks_for size));
+  kind = Put (inode_for fields path) path owner group size (lowest_runs (cache_blocks fields) (held_runs fields.files) (blocks_for size));
 }
 
 abbrev pub put_step : Fields → ℕ → List ℕ → List ℕ → List ℕ → List ℕ → HistoryStep
@@ -51,7 +54,7 @@ is_full fields = nat_le 65536 (length fields.files) || nat_lt 4294967294 fields.
 
 -- fewer blocks are free than so many bytes need
 abbrev pub lacks_space : Fields → ℕ → Bool
-lacks_space fields size = nat_lt (length (free_blocks fields.blocks (held_runs fields.files))) (blocks_for size)
+lacks_space fields size = nat_lt (length (free_blocks (cache_blocks fields) (held_runs fields.files))) (blocks_for size)
 
 -- The first rule that refuses a put of so many bytes. The blocks of a file that is replaced are not free yet.
 abbrev pub put_rule : Fields → List ℕ → List ℕ → List ℕ → ℕ → Option Rule
@@ -84,9 +87,31 @@ abbrev pub remove_answer_of : Option FileRec → ℕ → Answer
 remove_answer_of None moment = refused NoFile
 remove_answer_of (Some file) moment = record { reply = Done file.inode; step = Some (bare_step moment (Removed file.inode)) }
 
+-- a command file that is wrong is told by its first wrong line
+abbrev pub conf_refused : FileRefusal → Reply
+conf_refused refusal = ConfRefused refusal.file refusal.line refusal.fault
+
+abbrev pub has_files : Fields → Bool
+has_files fields = nat_lt 0 (length fields.files)
+
+-- Why a site is not configured by these texts: a file is there, or a text is over its limit, or one is wrong at a line.
+abbrev pub configure_refusal : Fields → SiteTexts → Option Reply
+configure_refusal fields texts =
+    if has_files fields then Some (Refused Running) else
+    if not (are_within texts) then Some (Refused TooLarge) else
+    option_map conf_refused (refusal_of texts)
+
+abbrev pub configure_answer_by : Option Reply → ℕ → SiteTexts → Answer
+configure_answer_by (Some reply) moment texts = record { reply = reply; step = None }
+configure_answer_by None moment texts = record { reply = Done 0; step = Some (bare_step moment (Configured texts)) }
+
+abbrev pub configure_answer : Fields → ℕ → SiteTexts → Answer
+configure_answer fields moment texts = configure_answer_by (configure_refusal fields texts) moment texts
+
 -- what is answered to an event at a moment; an event of a kind that is not served is no command
 abbrev pub answer_to : Site → ℕ → Event → Answer
 answer_to site moment (PutEvent path owner group bytes) = put_answer site.fields moment path owner group bytes
 answer_to site moment (ReadEvent path upto) = read_answer_of (file_at path site.fields.files) site.contents moment upto
 answer_to site moment (RemoveEvent path) = remove_answer_of (file_at path site.fields.files) moment
+answer_to site moment (ConfigureEvent texts) = configure_answer site.fields moment texts
 answer_to site moment _ = record { reply = Line NotACommand; step = None }

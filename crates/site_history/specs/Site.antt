@@ -4,6 +4,8 @@ use Rattle.std.specs.Option.{option_map_or}
 use Rattle.std.specs.Str.{bytes_eq}
 use Rattle.records.specs.declared.file.FileRec.{FileRec}
 use Rattle.records.specs.declared.file.Run.{Run}
+use Rattle.records.specs.declared.file.SiteTexts.{SiteTexts}
+use Rattle.configuration.specs.Readings.{no_texts, blocks_of}
 
 -- what a site keeps, without any byte of a file
 pub record Fields : Type 0 where
@@ -13,8 +15,8 @@ pub record Fields : Type 0 where
   pub next_inode : ℕ
   -- that of the last step, in seconds
   pub moment : ℕ
-  -- how many blocks the cache has
-  pub blocks : ℕ
+  -- the command files, by which the site is configured
+  pub texts : SiteTexts
 
 -- all bytes of the file of an inode
 pub record FileBytes : Type 0 where
@@ -27,7 +29,11 @@ pub record Site : Type 0 where
 
 -- the site of five empty texts: a cache of 64 MiB, and no file
 abbrev pub first_fields : Fields
-first_fields = record { files = []; next_inode = 1; moment = 0; blocks = 16384 }
+first_fields = record { files = []; next_inode = 1; moment = 0; texts = no_texts }
+
+-- how many blocks the cache has
+abbrev pub cache_blocks : Fields → ℕ
+cache_blocks fields = blocks_of fields.texts
 
 abbrev pub first_site : Site
 first_site = record { fields = first_fields; contents = [] }

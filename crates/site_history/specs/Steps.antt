@@ -4,18 +4,20 @@ use Rattle.std.specs.List.{list_any}
 use Rattle.std.specs.Option.{option_map_or}
 use Rattle.records.specs.declared.file.FileRec.{FileRec}
 use Rattle.records.specs.declared.file.Run.{Run}
+use Rattle.records.specs.declared.file.SiteTexts.{SiteTexts}
 use Rattle.records.specs.declared.file.CopySlots.{CopySlots}
 use Rattle.records.specs.declared.file.CopySlot.TheVariants.{Empty}
 use Rattle.records.specs.declared.file.ReleaseKind.{ReleaseKind}
 use Rattle.records.specs.declared.file.StageKind.{StageKind}
 use Rattle.records.specs.declared.step.Step.{Step}
 use Rattle.records.specs.declared.step.StepKind.{StepKind}
-use Rattle.records.specs.declared.step.StepKind.TheVariants.{Put, Accessed, Removed}
+use Rattle.records.specs.declared.step.StepKind.TheVariants.{Configured, Put, Accessed, Removed}
 use Rattle.records.specs.Paths.{is_legal_path, is_legal_name}
 use Rattle.records.specs.Written.{InRange}
+use Rattle.configuration.specs.Readings.{AreWithin, refusal_of}
 use Rattle.cache_space.specs.Blocks.{blocks_for}
 use Rattle.cache_space.specs.Space.{AreFree, AreMaximal, blocks_in}
-use Rattle.site_history.specs.Site.{Fields, FileBytes, Site, file_at, held_runs, with_file, with_bytes}
+use Rattle.site_history.specs.Site.{Fields, FileBytes, Site, file_at, held_runs, with_file, with_bytes, cache_blocks}
 
 -- a step of a history: a put comes with the bytes of its file
 pub record HistoryStep : Type 0 where
@@ -81,7 +83,7 @@ put_effect moment put fields = record {
   files = with_file (stored_file (file_at put.path fields.files) moment put) fields.files;
   next_inode = next_after fields put.path;
   moment = moment;
-  blocks = fields.blocks;
+  texts = fields.texts;
 }
 
 -- a file that was read has a new moment of access
@@ -101,11 +103,16 @@ removed_effect moment inode fields = record fields { files = without_file inode 
 abbrev pub without_bytes : ℕ → List FileBytes → List FileBytes
 without_bytes inode contents = filter (λ (file : FileBytes). not (file.inode == inode)) contents
 
+-- The site is configured anew by these texts; its cache is that of the new site. The next inode stays.
+abbrev pub configured_effect : ℕ → SiteTexts → Fields → Fields
+configured_effect moment texts fields = record fields { texts = texts; moment = moment }
+
 -- what a step changes of the fields; a kind that is not served changes nothing, and is never legal
 abbrev pub fields_after : Step → Fields → Fields
 fields_after step fields = by_kind step.kind
   where
     by_kind : StepKind → Fields
+    by_kind (Configured texts) = configured_effect step.moment texts fields
     by_kind (Put inode path owner group length runs) = put_effect step.moment
         (record { inode = inode; path = path; owner = owner; group = group; length = length; runs = runs }) fields
     by_kind (Accessed inode) = accessed_effect step.moment inode fields
@@ -134,18 +141,25 @@ pub record IsLegalPut (fields : Fields) (put : PutOf) : Type 0 where
   pub inode : put.inode ≡ inode_for fields put.path
   pub fits : MatchOption (file_at put.path fields.files) ((length fields.files < 65536) × (fields.next_inode ≤ 4294967294)) (λ _. Unit {0})
   pub maximal : AreMaximal put.runs
-  pub free : AreFree fields.blocks (held_runs fields.files) put.runs
+  pub free : AreFree (cache_blocks fields) (held_runs fields.files) put.runs
   pub blocks : blocks_in put.runs ≡ blocks_for put.length
 
 -- a file of this inode is there
 abbrev pub IsThere : Fields → ℕ → Type 0
 IsThere fields inode = IsTrue (list_any (λ (file : FileRec). file.inode == inode) fields.files)
 
+-- A site may be configured where it has no file, each text is within its limit, and none is refused.
+pub record IsLegalConfiguration (fields : Fields) (texts : SiteTexts) : Type 0 where
+  pub no_file : fields.files ≡ []
+  pub within : AreWithin texts
+  pub read : refusal_of texts ≡ None
+
 -- the step may come: its fields are in their ranges, its moment is at least the last one, and its kind's rule holds
 abbrev pub IsLegal : Fields → Step → Type 0
 IsLegal fields step = InRange step × (fields.moment ≤ step.moment) × by_kind step.kind
   where
     by_kind : StepKind → Type 0
+    by_kind (Configured texts) = IsLegalConfiguration fields texts
     by_kind (Put inode path owner group length runs) = IsLegalPut fields (record { inode = inode; path = path; owner = owner; group = group; length = length; runs = runs })
     by_kind (Accessed inode) = IsThere fields inode
     by_kind (Removed inode) = IsThere fields inode

@@ -1,6 +1,6 @@
 -- Each text says one list of readings or has one refusal, and not both.
 use Rattle.std.proofs.Common.{◌≡◌, ℕ, Bool, true, false, List, [], ◌∷◌, ◌++◌, length, Option, Some, None, Result, Ok, Err, refl, sym, ap, ◌∙◌, subst, append_assoc, inl, inr}
-use Rattle.std.specs.Prelude.{◌⊎◌, ◌↔◌}
+use Rattle.std.specs.Prelude.{◌⊎◌, ◌↔◌, if◌then◌else◌, not}
 use Rattle.std.specs.Str.{is_utf8}
 use Rattle.std.specs.Str.Lossy.{utf8_valid_len}
 use Rattle.std.proofs.lemmas.List.{append-nil}
@@ -12,20 +12,11 @@ use Rattle.site_text.specs.declared.fault.ConfFault.TheVariants as faults
 use Rattle.site_text.specs.declared.fault.ConfRefusal.{ConfRefusal}
 use Rattle.site_text.specs.Lines.{physical_lines, line_of_byte, ends_continued, lines_of}
 use Rattle.site_text.specs.Fields.{Read}
-use Rattle.site_text.specs.Files.{LineReader, LinesSay, FirstWrongLine, IsText, NotTextAt, FileSays, FileWrong}
-
--- reading lines one after the other, by the readings of those before
-abbrev at_line : {R A : Type 0} → ℕ → Read R → (R → Result A ConfRefusal) → Result A ConfRefusal
-at_line number (Ok r) go = go r
-at_line number (Err fault) go = Err (record { line = number; fault = fault })
+use Rattle.site_text.specs.Files.{LineReader, LinesSay, FirstWrongLine, IsText, NotTextAt, FileSays, FileWrong, at_line, read_lines, closed_reading, file_reading}
 
 abbrev then_read : {A B : Type 0} → Result A ConfRefusal → (A → Result B ConfRefusal) → Result B ConfRefusal
 then_read (Ok x) go = go x
 then_read (Err refusal) go = Err refusal
-
-abbrev steps : {R : Type 0} → LineReader R → List R → List Line → Result (List R) ConfRefusal
-steps line before [] = Ok before
-steps line before (l ∷ ls) = at_line l.number (line before l) (λ r. steps line (r ∷ before) ls)
 
 -- how a relation on lines and reading them from the left belong together
 pub record Agrees {R : Type 0} (line : LineReader R) (LineSays : List R → Line → R → Type 0) (LineWrong : List R → Line → ConfFault → Type 0) : Type 0 where
@@ -37,29 +28,29 @@ next_line : {R A : Type 0} (number : ℕ) (read : Read R) (go : R → Result A C
 next_line number (Ok r) go step more is = is r
 next_line number (Err fault) go step more is = refl
 
-steps-append : {R : Type 0} (line : LineReader R) (before : List R) (front rest : List Line) → steps line before (front ++ rest) ≡ then_read (steps line before front) (λ said. steps line said rest)
+steps-append : {R : Type 0} (line : LineReader R) (before : List R) (front rest : List Line) → read_lines line before (front ++ rest) ≡ then_read (read_lines line before front) (λ said. read_lines line said rest)
 steps-append line before [] rest = refl
-steps-append line before (l ∷ front) rest = next_line l.number (line before l) (λ r. steps line (r ∷ before) (front ++ rest)) (λ r. steps line (r ∷ before) front) (λ said. steps line said rest) (λ r. steps-append line (r ∷ before) front rest)
+steps-append line before (l ∷ front) rest = next_line l.number (line before l) (λ r. read_lines line (r ∷ before) (front ++ rest)) (λ r. read_lines line (r ∷ before) front) (λ said. read_lines line said rest) (λ r. steps-append line (r ∷ before) front rest)
 
 -- ---- the relation gives the steps
 
 lines_read : {R : Type 0} (line : LineReader R) (LineSays : List R → Line → R → Type 0) (LineWrong : List R → Line → ConfFault → Type 0) → Agrees line LineSays LineWrong
-    → (lines : List Line) (said : List R) → LinesSay LineSays lines said → steps line [] lines ≡ Ok said
+    → (lines : List Line) (said : List R) → LinesSay LineSays lines said → read_lines line [] lines ≡ Ok said
 lines_read line LineSays LineWrong agrees lines [] is = rw is refl
 lines_read line LineSays LineWrong agrees lines (r ∷ said) (front, l, cut, before, says) =
     let first = lines_read line LineSays LineWrong agrees front said before in
     let this = (agrees.says said l r).1 says in
-    ap (steps line []) cut ∙ steps-append line [] front (l ∷ []) ∙ rw (first, this) refl
+    ap (read_lines line []) cut ∙ steps-append line [] front (l ∷ []) ∙ rw (first, this) refl
 
 abbrev refused_there : {A : Type 0} → ConfFault → ℕ → Result A ConfRefusal
 refused_there fault line = Err (record { line = line; fault = fault })
 
 wrong_read : {R : Type 0} (line : LineReader R) (LineSays : List R → Line → R → Type 0) (LineWrong : List R → Line → ConfFault → Type 0) → Agrees line LineSays LineWrong
-    → (lines : List Line) (refusal : ConfRefusal) → FirstWrongLine LineSays LineWrong lines refusal → steps line [] lines ≡ Err refusal
+    → (lines : List Line) (refusal : ConfRefusal) → FirstWrongLine LineSays LineWrong lines refusal → read_lines line [] lines ≡ Err refusal
 wrong_read line LineSays LineWrong agrees lines refusal w =
     let first = lines_read line LineSays LineWrong agrees w.front w.said w.front_says in
     let this = (agrees.wrong w.said w.line refusal.fault).1 w.wrong in
-    ap (steps line []) w.cut ∙ steps-append line [] w.front (w.line ∷ w.rest) ∙ rw (first, this) (ap (refused_there refusal.fault) (sym w.at))
+    ap (read_lines line []) w.cut ∙ steps-append line [] w.front (w.line ∷ w.rest) ∙ rw (first, this) (ap (refused_there refusal.fault) (sym w.at))
 
 -- ---- the steps give the relation
 
@@ -68,23 +59,23 @@ Judges LineSays LineWrong lines (Ok said) = LinesSay LineSays lines said
 Judges LineSays LineWrong lines (Err refusal) = FirstWrongLine LineSays LineWrong lines refusal
 
 judged : {R : Type 0} (line : LineReader R) (LineSays : List R → Line → R → Type 0) (LineWrong : List R → Line → ConfFault → Type 0) → Agrees line LineSays LineWrong
-    → (front rest : List Line) (said : List R) → LinesSay LineSays front said → Judges LineSays LineWrong (front ++ rest) (steps line said rest)
+    → (front rest : List Line) (said : List R) → LinesSay LineSays front said → Judges LineSays LineWrong (front ++ rest) (read_lines line said rest)
 judged {R} line LineSays LineWrong agrees front [] said before = let P : List Line → Type 0 = λ ls. LinesSay LineSays ls said in subst P (sym (append-nil front)) before
 judged {R} line LineSays LineWrong agrees front (l ∷ rest) said before = by_line (line said l) refl (λ r. judged line LineSays LineWrong agrees (front ++ l ∷ []) rest (r ∷ said))
   where
-    by_line : (read : Read R) → line said l ≡ read → ((r : R) → LinesSay LineSays (front ++ l ∷ []) (r ∷ said) → Judges LineSays LineWrong ((front ++ l ∷ []) ++ rest) (steps line (r ∷ said) rest))
-        → Judges LineSays LineWrong (front ++ l ∷ rest) (at_line l.number read (λ r. steps line (r ∷ said) rest))
-    by_line (Ok r) is more = let P : List Line → Type 0 = λ ls. Judges LineSays LineWrong ls (steps line (r ∷ said) rest) in subst P (append_assoc front (l ∷ []) rest) (more r (front, l, refl, before, (agrees.says said l r).0 is))
+    by_line : (read : Read R) → line said l ≡ read → ((r : R) → LinesSay LineSays (front ++ l ∷ []) (r ∷ said) → Judges LineSays LineWrong ((front ++ l ∷ []) ++ rest) (read_lines line (r ∷ said) rest))
+        → Judges LineSays LineWrong (front ++ l ∷ rest) (at_line l.number read (λ r. read_lines line (r ∷ said) rest))
+    by_line (Ok r) is more = let P : List Line → Type 0 = λ ls. Judges LineSays LineWrong ls (read_lines line (r ∷ said) rest) in subst P (append_assoc front (l ∷ []) rest) (more r (front, l, refl, before, (agrees.says said l r).0 is))
     by_line (Err fault) is more = record { front = front; line = l; rest = rest; cut = refl; said = said; front_says = before; wrong = (agrees.wrong said l fault).0 is; at = refl }
 
 all_judged : {R : Type 0} (line : LineReader R) (LineSays : List R → Line → R → Type 0) (LineWrong : List R → Line → ConfFault → Type 0) → Agrees line LineSays LineWrong
-    → (lines : List Line) → Judges LineSays LineWrong lines (steps line [] lines)
+    → (lines : List Line) → Judges LineSays LineWrong lines (read_lines line [] lines)
 all_judged line LineSays LineWrong agrees lines = judged line LineSays LineWrong agrees [] lines [] refl
 
 -- ---- whole texts
 
 abbrev Steps : {R : Type 0} → LineReader R → List ℕ → Result (List R) ConfRefusal
-Steps line text = steps line [] (lines_of text)
+Steps line text = read_lines line [] (lines_of text)
 
 text_decided : (text : List ℕ) (utf8 ended : Bool) → is_utf8 text ≡ utf8 → ends_continued (physical_lines text) ≡ ended → IsText text ⊎ ((line : ℕ) × NotTextAt text line)
 text_decided text true false utf8 ended = inl (record { utf8 = IsUtf8-from_is_utf8 text utf8; ended = ended })
@@ -172,3 +163,69 @@ one_refusal line LineSays LineWrong open_section agrees text a b (inr (inr (is_t
 one_refusal line LineSays LineWrong open_section agrees text a b (inr (inr (is_text, section))) (inr (inr (is_text', section'))) =
     let same = ok_same (Steps line text) section.said section'.said (lines_read line LineSays LineWrong agrees (lines_of text) section.said section.lines_say) (lines_read line LineSays LineWrong agrees (lines_of text) section'.said section'.lines_say) in
     same_refusal a b (some_same (open_section section.said) a.line b.line section.open_at (ap open_section same ∙ section'.open_at)) (section.fault ∙ sym section'.fault)
+
+-- ---- a whole text, read in steps
+
+abbrev none_at : {A : Type 0} → ℕ → Result A ConfRefusal
+none_at number = Err (record { line = number; fault = faults.NotText })
+
+abbrev reading_by : {R : Type 0} → LineReader R → (List R → Option ℕ) → List ℕ → Bool → Bool → Result (List R) ConfRefusal
+reading_by line open_section text utf8 continued = if not utf8 then none_at (line_of_byte (utf8_valid_len text) text)
+    else if continued then none_at (length (physical_lines text)) else closed_reading open_section (Steps line text)
+
+is_reading_by : {R : Type 0} (line : LineReader R) (open_section : List R → Option ℕ) (text : List ℕ) (utf8 continued : Bool) → is_utf8 text ≡ utf8 → ends_continued (physical_lines text) ≡ continued
+    → file_reading line open_section text ≡ reading_by line open_section text utf8 continued
+unfolding file_reading
+is_reading_by line open_section text utf8 continued e k = ap (λ (b : Bool). reading_by line open_section text b (ends_continued (physical_lines text))) e ∙ ap (reading_by line open_section text utf8) k
+
+module _ {R : Type 0} (line : LineReader R) (LineSays : List R → Line → R → Type 0) (LineWrong : List R → Line → ConfFault → Type 0) (open_section : List R → Option ℕ) (agrees : Agrees line LineSays LineWrong) (text : List ℕ) where
+  reading_of_text : IsText text → file_reading line open_section text ≡ closed_reading open_section (Steps line text)
+  reading_of_text is_text = is_reading_by line open_section text true false (is_utf8-from_IsUtf8 text is_text.utf8) is_text.ended
+
+  reading_of_none : (number : ℕ) → NotTextAt text number → file_reading line open_section text ≡ none_at number
+  reading_of_none number (inl (not_utf8, is)) = by_utf8 (is_utf8 text) refl
+    where
+      by_utf8 : (utf8 : Bool) → is_utf8 text ≡ utf8 → file_reading line open_section text ≡ none_at number
+      by_utf8 false e = is_reading_by line open_section text false (ends_continued (physical_lines text)) e refl ∙ ap (none_at {A = List R}) (sym is)
+      by_utf8 true e = absurd (not_utf8 (IsUtf8-from_is_utf8 text e))
+  reading_of_none number (inr (utf8, continued, is)) = is_reading_by line open_section text true true (is_utf8-from_IsUtf8 text utf8) continued ∙ ap (none_at {A = List R}) (sym is)
+
+  section_closed : (said : List R) → open_section said ≡ None → closed_reading open_section (Ok said) ≡ Ok said
+  section_closed said e = rw e refl
+
+  section_open : (said : List R) (number : ℕ) → open_section said ≡ Some number → closed_reading open_section (Ok said) ≡ refused_there faults.SectionNotClosed number
+  section_open said number e = rw e refl
+
+  -- what the relation says is what is read
+  pub said_is_read : (said : List R) → FileSays LineSays open_section text said → file_reading line open_section text ≡ Ok said
+  said_is_read said says = reading_of_text says.is_text ∙ ap (closed_reading open_section) (lines_read line LineSays LineWrong agrees (lines_of text) said says.lines_say) ∙ section_closed said says.closed
+
+  same_parts : (refusal : ConfRefusal) (fault : ConfFault) → refusal.fault ≡ fault → refused_there {A = List R} fault refusal.line ≡ Err refusal
+  same_parts refusal fault is = ap (refused_there_at refusal.line) (sym is)
+    where
+      refused_there_at : ℕ → ConfFault → Result (List R) ConfRefusal
+      refused_there_at number fault = Err (record { line = number; fault = fault })
+
+  pub wrong_is_refused : (refusal : ConfRefusal) → FileWrong LineSays LineWrong open_section text refusal → file_reading line open_section text ≡ Err refusal
+  wrong_is_refused refusal (inl (there, fault)) = reading_of_none refusal.line there ∙ same_parts refusal faults.NotText fault
+  wrong_is_refused refusal (inr (inl (is_text, wrong))) = reading_of_text is_text ∙ ap (closed_reading open_section) (wrong_read line LineSays LineWrong agrees (lines_of text) refusal wrong)
+  wrong_is_refused refusal (inr (inr (is_text, section))) = reading_of_text is_text ∙ ap (closed_reading open_section) (lines_read line LineSays LineWrong agrees (lines_of text) section.said section.lines_say)
+      ∙ section_open section.said refusal.line section.open_at ∙ same_parts refusal faults.SectionNotClosed section.fault
+
+  meaning : ((said : List R) × FileSays LineSays open_section text said) ⊎ ((refusal : ConfRefusal) × FileWrong LineSays LineWrong open_section text refusal)
+  meaning = something line LineSays LineWrong open_section agrees text
+
+  -- and the other way round
+  pub read_is_said : (said : List R) → file_reading line open_section text ≡ Ok said → FileSays LineSays open_section text said
+  read_is_said said read = by_meaning meaning
+    where
+      by_meaning : ((said : List R) × FileSays LineSays open_section text said) ⊎ ((refusal : ConfRefusal) × FileWrong LineSays LineWrong open_section text refusal) → FileSays LineSays open_section text said
+      by_meaning (inl (other, says)) = subst (λ (l : List R). FileSays LineSays open_section text l) (ok_same (file_reading line open_section text) other said (said_is_read other says) read) says
+      by_meaning (inr (refusal, wrong)) = absurd (ok_or_err (file_reading line open_section text) said refusal read (wrong_is_refused refusal wrong))
+
+  pub refused_is_wrong : (refusal : ConfRefusal) → file_reading line open_section text ≡ Err refusal → FileWrong LineSays LineWrong open_section text refusal
+  refused_is_wrong refusal read = by_meaning meaning
+    where
+      by_meaning : ((said : List R) × FileSays LineSays open_section text said) ⊎ ((refusal : ConfRefusal) × FileWrong LineSays LineWrong open_section text refusal) → FileWrong LineSays LineWrong open_section text refusal
+      by_meaning (inl (said, says)) = absurd (ok_or_err (file_reading line open_section text) said refusal (said_is_read said says) read)
+      by_meaning (inr (other, wrong)) = subst (λ (r : ConfRefusal). FileWrong LineSays LineWrong open_section text r) (err_same (file_reading line open_section text) other refusal (wrong_is_refused other wrong) read) wrong

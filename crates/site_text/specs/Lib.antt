@@ -15,3 +15,5 @@ pub mod Options
 pub mod Files
 pub mod Kinds
 pub mod Directives
+pub mod OneMeaning
+pub mod Plain

@@ -2,7 +2,7 @@
 
 ghost use Rattle.std.specs.Prelude.{◌≡◌, ◌≤◌, ◌<◌, ◌+◌, ◌↔◌, ℕ, List as Seq, [], ◌∷◌, length, count_by, ◌==◌, ◌⊎◌, Option, Ok, Err, IfOk, OnOk};
 ghost use Rattle.site_text.specs.Fields.{Gives};
-ghost use Rattle.site_text.specs.Files.{LineReader, FileAnswers, FileLinesAnswer, LinesAnswer, FileSays, FileWrong};
+ghost use Rattle.site_text.specs.Files.{LineReader, FileAnswers, FileLinesAnswer, LinesAnswer, FileSays, FileWrong, file_reading};
 ghost use Rattle.site_text.specs.Lines.{line_of_byte};
 ghost use Rattle.site_text.specs.declared.line.Line.{Line};
 ghost use Rattle.site_text.specs.declared.fault.ConfFault.{ConfFault};
@@ -148,6 +148,7 @@ pub fn read_file<F: CommandFile>(
 }
 
 /// Each text says one list of readings, or has one refusal, and not both, read as a command file of this kind.
+/// Reading it in steps gives the one or the other.
 pub fn each_text_says_one_thing<F: CommandFile>(file: &F)
     ensures something { (text : Seq ℕ) → ((said : Seq F.Reading) × FileSays (F.line_says file.now) (F.open_section file.now) text said)
         ⊎ ((refusal : ConfRefusal) × FileWrong (F.line_says file.now) (F.line_wrong file.now) (F.open_section file.now) text refusal) }
@@ -158,4 +159,7 @@ pub fn each_text_says_one_thing<F: CommandFile>(file: &F)
     ensures one_refusal { (text : Seq ℕ) (refusal other : ConfRefusal) →
         FileWrong (F.line_says file.now) (F.line_wrong file.now) (F.open_section file.now) text refusal →
         FileWrong (F.line_says file.now) (F.line_wrong file.now) (F.open_section file.now) text other → refusal ≡ other }
+    ensures read { (text : Seq ℕ) (said : Seq F.Reading) → (file_reading (F.line_of file.now) (F.open_section file.now) text ≡ Ok said) ↔ FileSays (F.line_says file.now) (F.open_section file.now) text said }
+    ensures refused { (text : Seq ℕ) (refusal : ConfRefusal) → (file_reading (F.line_of file.now) (F.open_section file.now) text ≡ Err refusal)
+        ↔ FileWrong (F.line_says file.now) (F.line_wrong file.now) (F.open_section file.now) text refusal }
 {}

@@ -6,4 +6,6 @@ returns c text = record {
   one_meaning = c.each_text_says_one_thing.ensures.one_meaning text;
   not_both = c.each_text_says_one_thing.ensures.not_both text;
   one_refusal = c.each_text_says_one_thing.ensures.one_refusal text;
+  read = c.each_text_says_one_thing.ensures.read text;
+  refused = c.each_text_says_one_thing.ensures.refused text;
 }

@@ -6,4 +6,4 @@ use Rattle.plain_session.specs.Stage.{Wrote}
 use Rattle.plain_session.proofs.lines.plain_output.Given as goal
 
 abbrev pub invariant-loop-line : goal.invariant-loop-line
-invariant-loop-line l = Wrote [] l.out (stage_of []) (flat_map requests_of (take l.line-index l.all)) l.stage
+invariant-loop-line l = Wrote l.texts [] l.out (stage_of []) (flat_map requests_of (take l.line-index l.all)) l.stage

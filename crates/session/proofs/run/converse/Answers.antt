@@ -13,6 +13,8 @@ lines-init g c = record {
   passes = λ told tells stage h at_moment t. started _ _ (g.met.B.Bank.sound _ (tells t)) (λ image is. tt);
   size = refl;
   patterns = refl;
+  folder_texts = refl;
+  folder_later = omega arith;
   source_later = omega arith;
   sink_later = omega arith;
   bank_later = omega arith;
@@ -29,6 +31,8 @@ lines-preserved-in-Skipped g c = record {
   passes = c.lines.invariant.passes;
   size = c.lines.invariant.size;
   patterns = c.lines.invariant.patterns;
+  folder_texts = c.lines.invariant.folder_texts;
+  folder_later = c.lines.invariant.folder_later;
   source_later = omega (arith, c.lines.invariant.source_later, c.hear.ensures.later);
   sink_later = c.lines.invariant.sink_later;
   bank_later = c.lines.invariant.bank_later;
@@ -41,7 +45,7 @@ returns-in-Some-clause-session g c = λ told tells stage h at_moment.
     let r = c.lines.invariant.ran told tells stage h at_moment in
     let heard = c.in-Asks.ensures.hears in
     let round = c.in-Some.ensures.round told tells (stage_after stage r.rounds) r.stands (sym r.at_moment) heard.0 heard.1 in
-    ends_at asks_of _ _ _ _ _ _ _ _ stage (sym h.due ∙ c.requires.ready) _ _ _ r _ _ _ heard.0 heard.2 _ _ _ _ _ _ _ _ round.0 _ c.lines.invariant.size refl round.1
+    ends_at asks_of _ _ _ _ _ _ _ _ stage (sym h.due ∙ c.requires.ready) _ _ _ r _ _ _ heard.0 heard.2 _ _ _ _ _ _ _ _ _ _ round.0 _ c.lines.invariant.size refl c.in-Some.ensures.folder_texts round.1
     c.requires.fresh.nothing_held c.requires.fresh.still_open c.lines.invariant.sink_later c.in-Some.ending round.1.tells_answer
 
 pub returns-in-Some-clause-passes : goal.returns-in-Some-clause-passes
@@ -60,7 +64,7 @@ lines-preserved g c = record {
       let r = c.lines.invariant.ran told tells stage h at_moment in
       let heard = c.in-Asks.ensures.hears in
       let round = c.in-None.ensures.round told tells (stage_after stage r.rounds) r.stands (sym r.at_moment) heard.0 heard.1 in
-      goes_on asks_of _ _ _ _ _ _ _ _ stage (sym h.due ∙ c.requires.ready) _ _ _ r _ _ _ heard.0 heard.2 _ _ _ _ _ _ _ _ round.0 _ c.lines.invariant.size refl round.1 _ round.2 round.1.tells_answer;
+      goes_on asks_of _ _ _ _ _ _ _ _ stage (sym h.due ∙ c.requires.ready) _ _ _ r _ _ _ heard.0 heard.2 _ _ _ _ _ _ _ _ _ _ round.0 _ c.lines.invariant.size refl c.in-None.ensures.folder_texts round.1 _ round.2 round.1.tells_answer;
   passes = λ told tells stage h at_moment t.
       let r = c.lines.invariant.ran told tells stage h at_moment in
       let heard = c.in-Asks.ensures.hears in
@@ -68,6 +72,8 @@ lines-preserved g c = record {
       joined _ _ _ _ (c.lines.invariant.passes told tells stage h at_moment t) (weakened _ _ _ _ (round.1.meanwhile t) (λ image is. tt));
   size = c.in-None.ensures.size ∙ c.lines.invariant.size;
   patterns = c.in-None.ensures.patterns ∙ c.lines.invariant.patterns;
+  folder_texts = c.one_round.ensures.folder_texts ∙ c.lines.invariant.folder_texts;
+  folder_later = omega (arith, c.lines.invariant.folder_later, c.one_round.ensures.folder_later);
   source_later = omega (arith, c.lines.invariant.source_later, c.hear.ensures.later);
   sink_later = omega (arith, c.lines.invariant.sink_later, c.one_round.ensures.later);
   bank_later = omega (arith, c.lines.invariant.bank_later, c.one_round.ensures.bank_later);

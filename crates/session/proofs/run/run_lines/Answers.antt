@@ -16,7 +16,7 @@ no_tells t = absurd (let e : false ≡ true = t in cc)
 pub returns-in-Err-clause-outcome : goal.returns-in-Err-clause-outcome
 returns-in-Err-clause-outcome g c = λ told tells before settled.
     inr (shut_outcome _ _ g.B.Bank.tells _ _ c.in-Err.shut.cause _ c.refuse-status.ensures.status c.in-Err.ensures.fault c.in-Err.ensures.bad_journal c.refuse-status.ensures.bytes
-    told before _ tells c.in-Err.ensures.unchanged settled refl refl c.new.ensures)
+    told before _ tells c.in-Err.ensures.unchanged settled refl refl refl refl c.new.ensures)
 
 pub returns-in-Err-clause-status : goal.returns-in-Err-clause-status
 returns-in-Err-clause-status g c =
@@ -29,7 +29,7 @@ returns-in-Err-clause-good g c = λ tells before settled. never_bad g.B.Bank.tel
 pub returns-in_default-clause-outcome : goal.returns-in_default-clause-outcome
 returns-in_default-clause-outcome g c = λ told tells before settled.
     inr (refused_outcome _ _ told g.B.Bank.tells (g.B.Bank.view c.args.bank) (g.B.Bank.view c.hand_back.result.bank) before _ c.hand_back.result.status tells
-    (λ t. subst (λ (b : g.row.B.Denot). OnlyRead (g.B.Bank.view c.args.bank) (g.B.Bank.view b)) (sym c.hand_back.ensures.bank) (c.in-Ok.ensures.unchanged t)) settled refl refl
+    (λ t. subst (λ (b : g.row.B.Denot). OnlyRead (g.B.Bank.view c.args.bank) (g.B.Bank.view b)) (sym c.hand_back.ensures.bank) (c.in-Ok.ensures.unchanged t)) settled refl refl refl refl
     (c.hand_back.ensures.marks ∙ c.new-2.ensures.items) (inr (inl (c.hand_back.ensures.status, Appends-nil (g.O.Sink.written c.args.output.now)))))
 
 pub returns-in_default-clause-status : goal.returns-in_default-clause-status
@@ -41,7 +41,7 @@ returns-in_default-clause-good g c = λ tells before settled is. absurd (omega (
 -- the store was opened, and a session followed
 pub returns-clause-outcome : goal.returns-clause-outcome
 returns-clause-outcome g c = λ told tells before settled.
-    inl (handed told g.B.Bank.faults g.B.Bank.view _ _ _ _ _ _ _ _ c.args.bank c.in-Ok.engine c.converse-ending.new.session.engine before
+    inl (handed told g.B.Bank.faults g.B.Bank.view _ _ _ _ _ _ _ _ _ _ _ _ c.args.bank c.in-Ok.engine c.converse-ending.new.session.engine before
     (c.in-Ok.ensures.stands told tells before settled) (λ t. c.in-Ok.ensures.unchanged (tells t)) settled (λ t. g.met.B.Bank.sound _ (tells t)) c.in-Ok.ensures.later
     _ _ _ c.in-Ok.engine.clock _ _ _ _ _ c.in-Ok.ensures.size c.converse-ending.ensures.size refl
     (c.converse-ending.ensures.passes told tells) (c.converse-ending.ensures.session told tells)
@@ -50,7 +50,7 @@ returns-clause-outcome g c = λ told tells before settled.
 
 pub returns-clause-status : goal.returns-clause-status
 returns-clause-status g c = answered_status false c.args.budget _ _ _ _ [] _ _ g.B.Bank.tells _ c.in-Ok.ensures.journal
-    (handed false g.B.Bank.faults g.B.Bank.view _ _ _ _ _ _ _ _ c.args.bank c.in-Ok.engine c.converse-ending.new.session.engine []
+    (handed false g.B.Bank.faults g.B.Bank.view _ _ _ _ _ _ _ _ _ _ _ _ c.args.bank c.in-Ok.engine c.converse-ending.new.session.engine []
     (c.in-Ok.ensures.stands false no_tells [] no_tells) no_tells no_tells no_tells c.in-Ok.ensures.later
     _ _ _ c.in-Ok.engine.clock _ _ _ _ _ c.in-Ok.ensures.size c.converse-ending.ensures.size refl
     (c.converse-ending.ensures.passes false no_tells) (c.converse-ending.ensures.session false no_tells)

@@ -33,7 +33,7 @@ returns-in_default-prepare_put-clause-turn g c = λ told tells history stands.
     let u = c.prepare_put.ensures.unmoved in (
       at history c.args.self.now.clock,
       refl,
-      stays_here told g.B.Bank.view c.args.self.now _ (at history c.args.self.now.clock) stands (keeps_again _ _ u.files u.next_inode u.moment u.space) u.journal u.steps u.clock u.due (λ t. subst (λ (b : g.row.B.Denot). OnlyRead (g.B.Bank.view c.args.self.now.bank) (g.B.Bank.view b)) (sym u.bank) (nothing_read _ (g.met.B.Bank.sound _ (tells t)))),
+      stays_here told g.B.Bank.view c.args.self.now _ (at history c.args.self.now.clock) stands (keeps_again _ _ u.files u.next_inode u.moment u.configuration u.space) u.journal u.steps u.clock u.due (λ t. subst (λ (b : g.row.B.Denot). OnlyRead (g.B.Bank.view c.args.self.now.bank) (g.B.Bank.view b)) (sym u.bank) (nothing_read _ (g.met.B.Bank.sound _ (tells t)))),
     )
 
 pub returns-then-not-has_room-clause-turn : goal.returns-then-not-has_room-clause-turn
@@ -49,7 +49,7 @@ returns-then-not-has_room-clause-turn g c = λ told tells history stands.
     let full : c.prepare_put.new.self.journal.size < c.prepare_put.new.self.journal.place + 6 + length c.prepare_put.new.self.payload.items = search rules in (
       at history c.args.self.now.clock,
       full-turn c.args.self.now.journal.size told history (PutEvent c.args.path.now c.args.owner.now c.args.group.now c.args.bytes.now) c.args.self.now.clock 0 (Stored c.inode_of-inode.result.0 c.inode_of-inode.result.1) (storing told g.B.Bank.view c.args.self.now history stands c.args.path.now c.args.owner.now c.args.group.now c.args.bytes.now rule) answered c.prepare_put.new.self.journal.place c.prepare_put.new.self.payload.items place form (omega (arith, full, size)),
-      stays_here told g.B.Bank.view c.args.self.now _ (at history c.args.self.now.clock) stands (keeps_again _ _ u.files u.next_inode u.moment u.space) u.journal u.steps u.clock u.due (λ t. subst (λ (b : g.row.B.Denot). OnlyRead (g.B.Bank.view c.args.self.now.bank) (g.B.Bank.view b)) (sym u.bank) (nothing_read _ (g.met.B.Bank.sound _ (tells t)))),
+      stays_here told g.B.Bank.view c.args.self.now _ (at history c.args.self.now.clock) stands (keeps_again _ _ u.files u.next_inode u.moment u.configuration u.space) u.journal u.steps u.clock u.due (λ t. subst (λ (b : g.row.B.Denot). OnlyRead (g.B.Bank.view c.args.self.now.bank) (g.B.Bank.view b)) (sym u.bank) (nothing_read _ (g.met.B.Bank.sound _ (tells t)))),
     )
 
 pub returns-in_default-store-clause-turn : goal.returns-in_default-store-clause-turn
@@ -67,7 +67,7 @@ returns-in_default-store-clause-turn g c = λ told tells history stands.
     (subst (λ (l : List Run). WroteInside 1 (in_blocks_of l) (g.B.Bank.view c.prepare_put.new.self.bank) (g.B.Bank.view c.store.new.bank)) runs (c.store.ensures.wrote (tells t))) in (
       at history c.args.self.now.clock,
       stays-turn c.args.self.now.journal.size told history (PutEvent c.args.path.now c.args.owner.now c.args.group.now c.args.bytes.now) c.args.self.now.clock _ (λ journal. absurd (omega (arith, journal, c.in_default-store.ensures.area))),
-      put_stays told g.B.Bank.view c.args.self.now history stands c.args.path.now c.args.owner.now c.args.group.now c.args.bytes.now rule _ (keeps_again _ _ u.files u.next_inode u.moment u.space) u.journal u.steps u.clock u.due (λ t. g.met.B.Bank.sound _ (tells t)) wrote,
+      put_stays told g.B.Bank.view c.args.self.now history stands c.args.path.now c.args.owner.now c.args.group.now c.args.bytes.now rule _ (keeps_again _ _ u.files u.next_inode u.moment u.configuration u.space) u.journal u.steps u.clock u.due (λ t. g.met.B.Bank.sound _ (tells t)) wrote,
     )
 
 pub returns-in-Ok-commit-clause-turn : goal.returns-in-Ok-commit-clause-turn
@@ -86,7 +86,7 @@ returns-in-Ok-commit-clause-turn g c = λ told tells history stands.
     let fits : c.prepare_put.new.self.journal.place + 6 + length c.prepare_put.new.self.payload.items ≤ c.prepare_put.new.self.journal.size = search rules in (
       at (history ++ (storing told g.B.Bank.view c.args.self.now history stands c.args.path.now c.args.owner.now c.args.group.now c.args.bytes.now rule) ∷ []) c.args.self.now.clock,
       made-turn c.args.self.now.journal.size told history (PutEvent c.args.path.now c.args.owner.now c.args.group.now c.args.bytes.now) c.args.self.now.clock 0 (Stored c.inode_of-inode.result.0 c.inode_of-inode.result.1) (storing told g.B.Bank.view c.args.self.now history stands c.args.path.now c.args.owner.now c.args.group.now c.args.bytes.now rule) answered c.prepare_put.new.self.journal.place c.prepare_put.new.self.payload.items place form (omega (arith, fits, size)) (Stored c.inode_of-inode.result.0 c.inode_of-inode.result.1) refl (is_reply told (Stored c.inode_of-inode.result.0 c.inode_of-inode.result.1) (Stored c.inode_of-inode.result.0 c.inode_of-inode.result.1) refl),
-      put_moves told g.B.Bank.view c.args.self.now history stands c.args.path.now c.args.owner.now c.args.group.now c.args.bytes.now rule _ (keeps_again _ _ u.files u.next_inode u.moment u.space) u.journal u.steps u.clock u.due (λ t. g.met.B.Bank.sound _ (tells t)) wrote c.in-Ok.step is c.in-Ok.ensures.written (λ t. subst (λ (l : List Run). StandInAll (g.B.Bank.view c.store.new.bank) (extents_over l c.args.bytes.now)) c.runs_of.ensures (c.in-Ok-store.ensures.stored (tells t))) _
+      put_moves told g.B.Bank.view c.args.self.now history stands c.args.path.now c.args.owner.now c.args.group.now c.args.bytes.now rule _ (keeps_again _ _ u.files u.next_inode u.moment u.configuration u.space) u.journal u.steps u.clock u.due (λ t. g.met.B.Bank.sound _ (tells t)) wrote c.in-Ok.prepared.step is c.in-Ok.ensures.written (λ t. subst (λ (l : List Run). StandInAll (g.B.Bank.view c.store.new.bank) (extents_over l c.args.bytes.now)) c.runs_of.ensures (c.in-Ok-store.ensures.stored (tells t))) _
           (c.in-Ok-commit.ensures.made told tells history (storing told g.B.Bank.view c.args.self.now history stands c.args.path.now c.args.owner.now c.args.group.now c.args.bytes.now rule) (sym is)),
     )
 
@@ -106,6 +106,6 @@ returns-in-Err-clause-turn g c = λ told tells history stands.
     let fits : c.prepare_put.new.self.journal.place + 6 + length c.prepare_put.new.self.payload.items ≤ c.prepare_put.new.self.journal.size = search rules in (
       owing history c.args.self.now.clock (storing told g.B.Bank.view c.args.self.now history stands c.args.path.now c.args.owner.now c.args.group.now c.args.bytes.now rule),
       owes-turn c.args.self.now.journal.size told history (PutEvent c.args.path.now c.args.owner.now c.args.group.now c.args.bytes.now) c.args.self.now.clock _ (Stored c.inode_of-inode.result.0 c.inode_of-inode.result.1) (storing told g.B.Bank.view c.args.self.now history stands c.args.path.now c.args.owner.now c.args.group.now c.args.bytes.now rule) answered c.prepare_put.new.self.journal.place c.prepare_put.new.self.payload.items place form (omega (arith, fits, size)) c.in-Err.ensures.area,
-      put_owes told g.B.Bank.view c.args.self.now history stands c.args.path.now c.args.owner.now c.args.group.now c.args.bytes.now rule _ (keeps_again _ _ u.files u.next_inode u.moment u.space) u.journal u.steps u.clock u.due (λ t. g.met.B.Bank.sound _ (tells t)) wrote c.in-Ok.step is c.in-Ok.ensures.written (λ t. subst (λ (l : List Run). StandInAll (g.B.Bank.view c.store.new.bank) (extents_over l c.args.bytes.now)) c.runs_of.ensures (c.in-Ok-store.ensures.stored (tells t))) _
+      put_owes told g.B.Bank.view c.args.self.now history stands c.args.path.now c.args.owner.now c.args.group.now c.args.bytes.now rule _ (keeps_again _ _ u.files u.next_inode u.moment u.configuration u.space) u.journal u.steps u.clock u.due (λ t. g.met.B.Bank.sound _ (tells t)) wrote c.in-Ok.prepared.step is c.in-Ok.ensures.written (λ t. subst (λ (l : List Run). StandInAll (g.B.Bank.view c.store.new.bank) (extents_over l c.args.bytes.now)) c.runs_of.ensures (c.in-Ok-store.ensures.stored (tells t))) _
           (c.in-Err.ensures.owed told tells history (storing told g.B.Bank.view c.args.self.now history stands c.args.path.now c.args.owner.now c.args.group.now c.args.bytes.now rule) (sym is)),
     )

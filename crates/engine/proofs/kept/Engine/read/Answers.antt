@@ -83,7 +83,7 @@ returns-in-Ok-commit-clause-turn g c = λ told tells history stands.
           (moments_since told g.B.Bank.view c.args.self.now (at history c.args.self.now.clock) stands c.load_all.new.bank (λ t. c.load_all.ensures.unchanged (tells t)))
           (c.in-Ok-commit.ensures.made told tells history (bare_step c.args.self.now.clock (Accessed c.inode_at-inode.result)) refl
           (access_ready told g.B.Bank.view c.args.self.now history stands c.args.path.now c.in-Some.index found c.inode_at-inode.result is _
-          (stands_read told g.B.Bank.view c.args.self.now _ (at history c.args.self.now.clock) stands (keeps_again _ _ refl refl refl refl) refl refl refl refl (λ t. c.load_all.ensures.unchanged (tells t)))
+          (stands_read told g.B.Bank.view c.args.self.now _ (at history c.args.self.now.clock) stands (keeps_again _ _ refl refl refl refl refl) refl refl refl refl (λ t. c.load_all.ensures.unchanged (tells t)))
           refl c.in-Ok-write_payload.ensures.written)),
     )
 
@@ -100,7 +100,7 @@ returns-in-Err-clause-turn g c = λ told tells history stands.
           (moments_since told g.B.Bank.view c.args.self.now (at history c.args.self.now.clock) stands c.load_all.new.bank (λ t. c.load_all.ensures.unchanged (tells t)))
           (c.in-Err.ensures.owed told tells history (bare_step c.args.self.now.clock (Accessed c.inode_at-inode.result)) refl
           (access_ready told g.B.Bank.view c.args.self.now history stands c.args.path.now c.in-Some.index found c.inode_at-inode.result is _
-          (stands_read told g.B.Bank.view c.args.self.now _ (at history c.args.self.now.clock) stands (keeps_again _ _ refl refl refl refl) refl refl refl refl (λ t. c.load_all.ensures.unchanged (tells t)))
+          (stands_read told g.B.Bank.view c.args.self.now _ (at history c.args.self.now.clock) stands (keeps_again _ _ refl refl refl refl refl) refl refl refl refl (λ t. c.load_all.ensures.unchanged (tells t)))
           refl c.in-Ok-write_payload.ensures.written)),
     )
 
@@ -108,5 +108,5 @@ pub returns-in_default-load_all-clause-turn : goal.returns-in_default-load_all-c
 returns-in_default-load_all-clause-turn g c = λ told tells history stands. (
   at history c.args.self.now.clock,
   stays-turn c.args.self.now.journal.size told history (ReadEvent c.args.path.now c.args.upto) c.args.self.now.clock _ (λ journal. absurd (omega (arith, journal, c.in_default-load_all.ensures.area))),
-  stays_here told g.B.Bank.view c.args.self.now _ (at history c.args.self.now.clock) stands (keeps_again _ _ refl refl refl refl) refl refl refl refl (λ t. c.load_all.ensures.unchanged (tells t)),
+  stays_here told g.B.Bank.view c.args.self.now _ (at history c.args.self.now.clock) stands (keeps_again _ _ refl refl refl refl refl) refl refl refl refl (λ t. c.load_all.ensures.unchanged (tells t)),
 )

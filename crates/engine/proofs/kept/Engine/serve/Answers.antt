@@ -36,10 +36,19 @@ returns-in-Remove-clause-turn g c = λ told tells history stands.
       turn.2,
     )
 
+pub returns-in-Configure-clause-turn : goal.returns-in-Configure-clause-turn
+returns-in-Configure-clause-turn g c = λ told tells history stands.
+    let turn = c.configure.ensures.turn told tells history stands in (
+      turn.0,
+      subst (λ (e : Event). Turn c.args.self.now.journal.size told history e c.args.self.now.clock (g.B.Bank.last_fault c.configure.new.self.bank) c.configure.result turn.0)
+          (sym c.in-Configure.is) turn.1,
+      turn.2,
+    )
+
 pub returns-in_default-clause-turn : goal.returns-in_default-clause-turn
 returns-in_default-clause-turn g c = λ told tells history stands. (
   at history c.args.self.now.clock,
   line-turn c.args.self.now.journal.size told history c.args.event.now c.args.self.now.clock 0
-      (other-answer (after history) c.args.self.now.clock c.args.event.now c.in_default.not-Put c.in_default.not-Read c.in_default.not-Remove),
+      (other-answer (after history) c.args.self.now.clock c.args.event.now c.in_default.not-Put c.in_default.not-Read c.in_default.not-Remove c.in_default.not-Configure),
   stays_here told g.B.Bank.view c.args.self.now _ (at history c.args.self.now.clock) stands (λ fields keeps. keeps) refl refl refl refl (λ t. nothing_read _ (g.met.B.Bank.sound _ (tells t))),
 )

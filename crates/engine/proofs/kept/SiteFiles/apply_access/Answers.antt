@@ -1,6 +1,7 @@
 use Rattle.std.proofs.Common.{List, length, refl, sym, ◌∙◌, ap}
 use Rattle.cache_space.specs.Space.{taken_by}
 use Rattle.records.specs.declared.file.Run.{Run}
+use Rattle.site_history.specs.Site.{cache_blocks}
 use Rattle.site_history.specs.Histories.{after}
 use Rattle.site_history.proofs.HeldRuns.{held-accessed}
 use Rattle.site_history.proofs.SiteLaws.{orderly}
@@ -13,7 +14,8 @@ returns-in-Some c = λ steps history keeps there. record {
       c.args.moment _ c.access_at.ensures;
   next_inode = keeps.next_inode;
   moment = refl;
-  space = keeps.space ∙ ap (λ (l : List Run). taken_by (after steps).fields.blocks l) (sym (held-accessed c.args.moment c.args.inode (after steps).fields.files));
+  configuration = keeps.configuration;
+  space = keeps.space ∙ ap (λ (l : List Run). taken_by (cache_blocks (after steps).fields) l) (sym (held-accessed c.args.moment c.args.inode (after steps).fields.files));
 }
 
 pub returns-in_default : goal.returns-in_default

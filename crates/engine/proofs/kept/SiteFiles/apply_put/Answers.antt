@@ -24,6 +24,7 @@ returns-in-Some c = λ steps history few keeps legal.
       files = replaced_list (length steps) (after steps) (orderly steps history) c.args.self.now keeps c.args.moment (put_of c.args.put) legal c.in-Some.index found _ few c.store_at-replaced.ensures.list;
       next_inode = replaced_next (length steps) (after steps) (orderly steps history) c.args.self.now keeps c.args.moment (put_of c.args.put) legal c.in-Some.index found;
       moment = refl;
+      configuration = keeps.configuration;
       space = replaced_space (length steps) (after steps) (orderly steps history) c.args.self.now keeps c.args.moment (put_of c.args.put) legal c.in-Some.index found
           c.as_slice-in-Some.result.now c.as_slice.result.now c.hold.new.self _ c.as_slice.ensures
           (λ file is. c.as_slice-in-Some.ensures ∙ c.store_at-replaced.ensures.runs file is)
@@ -37,5 +38,6 @@ returns-in-None c = λ steps history few keeps legal.
       files = new_list (length steps) (after steps) (orderly steps history) c.args.self.now keeps c.args.moment (put_of c.args.put) legal found c.new_file.result _ c.new_file.ensures c.push.ensures;
       next_inode = new_next (length steps) (after steps) (orderly steps history) c.args.self.now keeps c.args.moment (put_of c.args.put) legal found _ c.saturating_add-self.ensures;
       moment = refl;
+      configuration = keeps.configuration;
       space = new_space (length steps) (after steps) (orderly steps history) c.args.self.now keeps c.args.moment (put_of c.args.put) legal found c.as_slice.result.now _ c.as_slice.ensures c.hold.ensures;
     }

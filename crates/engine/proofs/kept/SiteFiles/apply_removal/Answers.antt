@@ -13,6 +13,7 @@ returns-in-Some c = λ steps history keeps there.
       files = removed_list (length steps) (after steps) (orderly steps history) c.args.self.now keeps c.args.inode c.in-Some.index found _ c.remove-removed.ensures.list;
       next_inode = keeps.next_inode;
       moment = refl;
+      configuration = keeps.configuration;
       space = removed_space (length steps) (after steps) (orderly steps history) c.args.self.now keeps c.args.inode c.in-Some.index found c.remove-removed.result _ c.remove-removed.ensures.old
           (λ total kept taken apart. c.give.ensures total kept
           (subst (λ (l : List Run). c.args.self.now.space ≡ taken_by total (kept ++ l)) (sym c.as_slice.ensures) taken)

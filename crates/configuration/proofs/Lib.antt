@@ -1,0 +1,3 @@
+mod EachFile
+mod AllFiles
+pub mod Laws

@@ -1,0 +1,257 @@
+//! What no clause says: that the calls succeed, and texts made by hand from the forms of the five files.
+
+use super::*;
+use outside::{FolderFault, MemoryFolder, NamedText};
+use records::{CommandFile, SiteTexts};
+use site_text::{Bytes, ConfFault, List};
+use std::alloc::{AllocError, Global};
+use std::test::Fail;
+
+// ---- a folder's files
+
+const NAMES: [&[u8]; 5] = [
+    b"site.conf",
+    b"archiver.cmd",
+    b"stager.cmd",
+    b"releaser.cmd",
+    b"recycler.cmd",
+];
+
+/// The text of each file is its own name; one is absent, and the call with this number fails.
+fn folder(alloc: Global, absent: &[u8], failing: u64) -> Result<MemoryFolder, AllocError> {
+    let mut texts = List::new(alloc);
+    for name in NAMES {
+        if name != absent {
+            texts.push(NamedText {
+                name: Bytes::from_slice(alloc, name)?,
+                text: Bytes::from_slice(alloc, name)?,
+            })?;
+        }
+    }
+    let mut numbers = List::new(alloc);
+    numbers.push(failing)?;
+    Ok(MemoryFolder::new(alloc, texts, numbers))
+}
+
+/// The texts, each behind a `|`.
+fn shown(alloc: Global, texts: &SiteTexts) -> Result<Bytes, AllocError> {
+    let mut all = Bytes::new(alloc);
+    for text in [
+        &texts.site,
+        &texts.archiver,
+        &texts.stager,
+        &texts.releaser,
+        &texts.recycler,
+    ] {
+        all.push(b'|')?;
+        all.extend(text.as_slice())?;
+    }
+    Ok(all)
+}
+
+#[test]
+fn each_file_is_read_under_its_name(rt: HostRuntime) -> Result<(), Fail> {
+    let table: [(&[u8], &[u8]); 4] = [
+        (
+            b"none",
+            b"|site.conf|archiver.cmd|stager.cmd|releaser.cmd|recycler.cmd",
+        ),
+        (
+            b"site.conf",
+            b"||archiver.cmd|stager.cmd|releaser.cmd|recycler.cmd",
+        ),
+        (
+            b"stager.cmd",
+            b"|site.conf|archiver.cmd||releaser.cmd|recycler.cmd",
+        ),
+        (
+            b"recycler.cmd",
+            b"|site.conf|archiver.cmd|stager.cmd|releaser.cmd|",
+        ),
+    ];
+    for (absent, want) in table {
+        let mut folder = folder(rt.alloc(), absent, 6)?;
+        let texts = read_texts(rt.alloc(), &mut folder)?;
+        let all = shown(rt.alloc(), &texts)?;
+        assert_eq!(rt; all.as_slice(), want);
+        assert_eq!(rt; folder.faults(), 0);
+    }
+    Ok(())
+}
+
+#[test]
+fn a_call_that_fails_ends_it(rt: HostRuntime) -> Result<(), Fail> {
+    for failing in 1..6 {
+        let mut folder = folder(rt.alloc(), b"site.conf", failing)?;
+        let fault = read_texts(rt.alloc(), &mut folder).err();
+        assert_eq!(rt; fault, Some(FolderFault::Failed));
+        assert_eq!(rt; folder.faults(), 1);
+    }
+    Ok(())
+}
+
+/// A folder whose stager.cmd alone is there, with so many bytes.
+fn long_folder(alloc: Global, length: usize) -> Result<MemoryFolder, AllocError> {
+    let mut texts = List::new(alloc);
+    texts.push(NamedText {
+        name: Bytes::from_slice(alloc, b"stager.cmd")?,
+        text: Bytes::from_vec(vec![in alloc; 35; length]?),
+    })?;
+    Ok(MemoryFolder::new(alloc, texts, List::new(alloc)))
+}
+
+#[test]
+fn a_long_text_is_cut_one_byte_past_the_most(rt: HostRuntime) -> Result<(), Fail> {
+    for (length, want, fits) in [
+        (65_536, 65_536, true),
+        (65_537, 65_537, false),
+        (70_000, 65_537, false),
+    ] {
+        let mut folder = long_folder(rt.alloc(), length)?;
+        let texts = read_texts(rt.alloc(), &mut folder)?;
+        assert_eq!(rt; texts.stager.len(), want);
+        assert_eq!(rt; are_within(&texts), fits);
+    }
+    Ok(())
+}
+
+// ---- what texts say
+
+/// The texts of site.conf, archiver.cmd, stager.cmd, releaser.cmd and recycler.cmd.
+type Texts = [&'static [u8]; 5];
+
+fn site_texts(alloc: Global, texts: Texts) -> Result<SiteTexts, AllocError> {
+    let [site, archiver, stager, releaser, recycler] = texts;
+    Ok(SiteTexts {
+        site: Bytes::from_slice(alloc, site)?,
+        archiver: Bytes::from_slice(alloc, archiver)?,
+        stager: Bytes::from_slice(alloc, stager)?,
+        releaser: Bytes::from_slice(alloc, releaser)?,
+        recycler: Bytes::from_slice(alloc, recycler)?,
+    })
+}
+
+fn configuration(alloc: Global, texts: Texts) -> Result<Configuration, ConfigurationError> {
+    let Ok(texts) = site_texts(alloc, texts) else {
+        return Err(ConfigurationError::NoMemory);
+    };
+    if !are_within(&texts) {
+        return Err(ConfigurationError::NoMemory);
+    }
+    read_configuration(alloc, &texts)
+}
+
+/// The blocks, the volumes, the sets, the drives of the first library, the least residence, and the high mark of the first
+/// library; 0 where there is no library.
+fn numbers(conf: &Configuration) -> [u64; 6] {
+    let drives = conf.stager.drives.as_slice().first().copied();
+    let recycling = conf.recycler.libraries.as_slice().first().copied();
+    [
+        u64::from(conf.blocks()),
+        conf.site.volumes.len() as u64,
+        conf.archiver.sets.len() as u64,
+        u64::from(drives.unwrap_or(0)),
+        conf.releaser.min_residence_age,
+        u64::from(recycling.map_or(0, |library| library.hwm)),
+    ]
+}
+
+/// A cache of 1 MiB, and two volumes of one library with two drives.
+const SITE: &[u8] =
+    b"cache = 1M\nlibrary = lib 2\nvolume = lib li V1 10M\nvolume = lib li V2 20M\n";
+
+#[test]
+fn the_files_say_a_configuration(rt: HostRuntime) {
+    let table: [(Texts, [u64; 6]); 3] = [
+        ([b"", b"", b"", b"", b""], [16_384, 0, 1, 0, 600, 0]),
+        ([SITE, b"", b"", b"", b""], [256, 2, 1, 2, 600, 95]),
+        (
+            [
+                SITE,
+                b"work .\n1 10m",
+                b"drives = lib 1",
+                b"fs = samfs1\nmin_residence_age = 5",
+                b"lib -hwm 50",
+            ],
+            [256, 2, 2, 1, 5, 50],
+        ),
+    ];
+    for (texts, want) in table {
+        let conf = configuration(rt.alloc(), texts);
+        assert_eq!(rt; conf.map(|conf| numbers(&conf)), Ok(want));
+    }
+}
+
+fn refused(file: CommandFile, line: u32, fault: ConfFault) -> Option<ConfigurationError> {
+    Some(ConfigurationError::Refused(FileRefusal { file, line, fault }))
+}
+
+#[test]
+fn each_file_is_refused(rt: HostRuntime) {
+    let table: [(Texts, CommandFile, u32, ConfFault); 5] = [
+        (
+            [b"cache = 1", b"", b"", b"", b""],
+            CommandFile::Site,
+            1,
+            ConfFault::OutOfRange,
+        ),
+        (
+            [SITE, b"a .\n1\nset1 work -color red", b"", b"", b""],
+            CommandFile::Archiver,
+            3,
+            ConfFault::UnknownDirective,
+        ),
+        (
+            [SITE, b"", b"\ndrives = tower 1", b"", b""],
+            CommandFile::Stager,
+            2,
+            ConfFault::BadValue,
+        ),
+        (
+            [SITE, b"", b"", b"no_release\nweight_age = 2", b""],
+            CommandFile::Releaser,
+            2,
+            ConfFault::BadValue,
+        ),
+        (
+            [SITE, b"", b"", b"", b"# none\n\ntower -hwm 5"],
+            CommandFile::Recycler,
+            3,
+            ConfFault::UnknownDirective,
+        ),
+    ];
+    for (texts, file, line, fault) in table {
+        let error = configuration(rt.alloc(), texts).err();
+        assert_eq!(rt; error, refused(file, line, fault));
+    }
+}
+
+#[test]
+fn the_first_of_two_wrong_files_is_told(rt: HostRuntime) {
+    let table: [(Texts, CommandFile, u32); 4] = [
+        (
+            [b"\nfrob", b"wait", b"", b"", b"frob"],
+            CommandFile::Site,
+            2,
+        ),
+        (
+            [b"", b"\n\nwait", b"", b"frob = 1", b""],
+            CommandFile::Archiver,
+            3,
+        ),
+        (
+            [b"", b"", b"frob = 1", b"frob = 1", b"frob"],
+            CommandFile::Stager,
+            1,
+        ),
+        (
+            [b"", b"", b"", b"\nfrob = 1", b"frob"],
+            CommandFile::Releaser,
+            2,
+        ),
+    ];
+    for (texts, file, line) in table {
+        let error = configuration(rt.alloc(), texts).err();
+        assert_eq!(rt; error, refused(file, line, ConfFault::UnknownDirective));
+    }
+}

@@ -1,0 +1,136 @@
+//! recycler.cmd.
+
+use super::{Refused, SITE, Said, push_number, refused};
+use crate::{RecyclerConf, plain_recycler, read_recycler, read_site};
+use site_text::{Bytes, ConfFault};
+use std::alloc::{AllocError, Global};
+use std::test::Fail;
+
+/// The libraries as `HWM MINGAIN VSNCOUNT DATAQUANTITY` and `i` where it is ignored, and the volumes as `LINE MEDIA EXPR..`, each
+/// behind a `|`.
+fn shown(alloc: Global, recycler: &RecyclerConf) -> Result<Bytes, AllocError> {
+    let mut text = Bytes::new(alloc);
+    for library in recycler.libraries.as_slice() {
+        text.push(b'|')?;
+        push_number(&mut text, alloc, u64::from(library.hwm))?;
+        push_number(&mut text, alloc, u64::from(library.mingain))?;
+        push_number(&mut text, alloc, u64::from(library.vsncount))?;
+        push_number(&mut text, alloc, library.dataquantity)?;
+        if library.ignore {
+            text.push(b'i')?;
+        }
+    }
+    for volumes in recycler.no_recycle.as_slice() {
+        text.push(b'|')?;
+        push_number(&mut text, alloc, u64::from(volumes.line))?;
+        text.extend(volumes.media.as_slice())?;
+        for pattern in volumes.patterns.as_slice() {
+            text.push(b' ')?;
+            text.extend(pattern.as_slice())?;
+        }
+    }
+    Ok(text)
+}
+
+const SAID: [Said; 8] = [
+    (b"", b"|95 60 1 1073741824 |95 60 1 1073741824 "),
+    (
+        b"logfile = /var/adm/recycler.log\r\nrobot\r\nvault -mail root@site\r\n",
+        b"|95 60 1 1073741824 |95 60 1 1073741824 ",
+    ),
+    (
+        b"vault -hwm 80 -mingain 0 -vsncount 3 -dataquantity 10G -ignore",
+        b"|95 60 1 1073741824 |80 0 3 10737418240 i",
+    ),
+    (
+        b"robot -hwm 80 -hwm 70\nvault -ignore\nrobot -mingain 100 -hwm 60 \\\n -dataquantity 0",
+        b"|60 100 1 0 |95 60 1 1073741824 i",
+    ),
+    (
+        b"no_recycle li ^DAY ^FIN # two\n\nno_recycle s9 [a-c]=\\\\d\n",
+        b"|95 60 1 1073741824 |95 60 1 1073741824 |1 li ^DAY ^FIN|3 s9 [a-c]=\\\\d",
+    ),
+    (
+        b"robot -mail a=b\nlogfile=x y",
+        b"|95 60 1 1073741824 |95 60 1 1073741824 ",
+    ),
+    (
+        b"# recycle\r\nrobot -vsncount 0 -dataquantity 2g -dataquantity 512K # little\\\r\nvault -dataquantity \\\r\n1t\r\nno_recycle s9 A\r\n",
+        b"|95 60 0 524288 |95 60 1 1099511627776 |5 s9 A",
+    ),
+    (
+        b"robot -mingain 007 -ignore -ignore",
+        b"|95 7 1 1073741824 i|95 60 1 1073741824 ",
+    ),
+];
+
+#[test]
+fn recycler_cmd_says(rt: HostRuntime) -> Result<(), Fail> {
+    let site = read_site(rt.alloc(), SITE)?;
+    for (text, want) in SAID {
+        if text.len() <= 65536 {
+            let recycler = read_recycler(rt.alloc(), text, &site)?;
+            assert_eq!(rt; shown(rt.alloc(), &recycler)?.as_slice(), want);
+            let plain = plain_recycler(rt.alloc(), text, &site)?;
+            assert_eq!(rt; shown(rt.alloc(), &plain)?.as_slice(), want);
+        }
+    }
+    Ok(())
+}
+
+const REFUSED: [Refused; 32] = [
+    (b"tower -hwm 5", 1, ConfFault::UnknownDirective),
+    (b"Robot", 1, ConfFault::UnknownDirective),
+    (b"robot = 5", 1, ConfFault::UnknownDirective),
+    (b"robot -hwm=5", 1, ConfFault::UnknownDirective),
+    (b"robot -high 5", 1, ConfFault::UnknownDirective),
+    (b"script = x", 1, ConfFault::UnknownDirective),
+    (b"no_recycle = li", 1, ConfFault::UnknownDirective),
+    (b"logfile", 1, ConfFault::UnknownDirective),
+    (b"robot\n\nlogfile =", 3, ConfFault::MissingField),
+    (b"= x", 1, ConfFault::MissingField),
+    (b"robot -hwm", 1, ConfFault::MissingField),
+    (b"robot -ignore -mail", 1, ConfFault::MissingField),
+    (b"no_recycle", 1, ConfFault::MissingField),
+    (b"no_recycle li", 1, ConfFault::MissingField),
+    (b"robot hwm 5", 1, ConfFault::ExtraField),
+    (b"robot -ignore 1 -frob", 1, ConfFault::ExtraField),
+    (b"no_recycle LI", 1, ConfFault::BadValue),
+    (b"robot -hwm x -frob", 1, ConfFault::BadValue),
+    (b"robot -hwm -mingain 5", 1, ConfFault::BadValue),
+    (b"vault -dataquantity 1X", 1, ConfFault::BadValue),
+    (b"vault -vsncount 1000000000", 1, ConfFault::BadValue),
+    (b"robot -hwm 101\ntower", 1, ConfFault::OutOfRange),
+    (
+        b"robot -hwm 100\nvault -mingain 101",
+        2,
+        ConfFault::OutOfRange,
+    ),
+    (b"tower\nrobot\\", 2, ConfFault::NotText),
+    (b"tower -frob", 1, ConfFault::UnknownDirective),
+    (b"robot -ignore -hwm = 5", 1, ConfFault::BadValue),
+    (
+        b"robot\\\n\ntower\nrobot -hwm",
+        3,
+        ConfFault::UnknownDirective,
+    ),
+    (b"no_recycle LI x", 1, ConfFault::BadValue),
+    (b"vault -dataquantity 1024T", 1, ConfFault::BadValue),
+    (b"robot -hwm 101 x", 1, ConfFault::OutOfRange),
+    (b"robot x -hwm 101", 1, ConfFault::ExtraField),
+    (b"# c\nrobot\n\xff", 3, ConfFault::NotText),
+];
+
+#[test]
+fn recycler_cmd_is_refused(rt: HostRuntime) -> Result<(), Fail> {
+    let site = read_site(rt.alloc(), SITE)?;
+    for (text, line, fault) in REFUSED {
+        if text.len() <= 65536 {
+            let want = refused(line, fault);
+            assert_eq!(rt; read_recycler(rt.alloc(), text, &site).err(), want);
+            let want = refused(line, fault);
+            assert_eq!(rt; plain_recycler(rt.alloc(), text, &site).err(), want);
+        }
+    }
+    Ok(())
+}

@@ -1,0 +1,125 @@
+//! Configurations.
+
+ghost use Rattle.std.specs.Prelude.{ℕ, ◌≡◌, ◌≢◌, ◌≤◌, false, Bool, List as Seq, None, Some, option_map, IfOk, IfErr, IfNone, IfSome, OnOk, IsTrue};
+ghost use Rattle.site_text.specs.Causes.{Rose};
+ghost use Rattle.bank.specs.Content.{Content};
+ghost use Rattle.records.specs.Written.{written, InRange};
+ghost use Rattle.records.specs.declared.event.Event.TheVariants.{Configure as ConfigureEvent};
+ghost use Rattle.records.specs.declared.reply.Reply.TheVariants.{Refused};
+ghost use Rattle.records.specs.declared.step.StepKind.TheVariants.{Configured};
+ghost use Rattle.journal.specs.Records.{IsPayload};
+ghost use Rattle.configuration.specs.Readings.{AreWithin, refusal_of};
+ghost use Rattle.configuration.specs.Says.{TellsRefusal};
+ghost use Rattle.site_history.specs.Site.{Fields};
+ghost use Rattle.site_history.specs.Steps.{HistoryStep};
+ghost use Rattle.site_history.specs.Answers.{bare_step, configure_refusal, conf_refused};
+ghost use Rattle.site_history.specs.Worlds.{World, at, Turn};
+ghost use Rattle.engine.specs.Journals.{RepliesJournal};
+ghost use Rattle.engine.specs.Ready.{IsUnmoved};
+ghost use Rattle.engine.specs.Room.{IsPrepared};
+ghost use Rattle.engine.specs.StandsFor.{Keeps, StandsFor, Moves};
+
+use crate::kept::{Engine, SiteFiles};
+use crate::payload::write_payload;
+use crate::prepare::{Prepared, Setting};
+use bank::Bank;
+use configuration::{ConfigurationError, are_within};
+use records::{Reply, Rule, SiteTexts, Step, StepKind};
+use std::alloc::AllocError;
+
+// A copy of the texts.
+fn copy_texts(texts: &SiteTexts) -> Result<SiteTexts, AllocError>
+    ensures { IfOk result (λ copy. copy ≡ texts.now) }
+{
+    Ok(SiteTexts {
+        site: texts.site.copy()?,
+        archiver: texts.archiver.copy()?,
+        stager: texts.stager.copy()?,
+        releaser: texts.releaser.copy()?,
+        recycler: texts.recycler.copy()?,
+    })
+}
+
+impl SiteFiles {
+    // The first rule that refuses to configure the site by these texts, whatever they say.
+    fn configure_rule(&self, texts: &SiteTexts) -> Option<Rule>
+        ensures refused { (fields : Fields) → Keeps self.now fields → IfSome result (λ rule. configure_refusal fields texts.now ≡ Some (Refused rule)) }
+        ensures left { (fields : Fields) → Keeps self.now fields → IfNone result (configure_refusal fields texts.now ≡ option_map conf_refused (refusal_of texts.now)) }
+        ensures within { IfNone result (AreWithin texts.now) }
+    {
+        if self.files.len() > 0 {
+            return Some(Rule::Running);
+        }
+        if !are_within(texts) {
+            return Some(Rule::TooLarge);
+        }
+        None
+    }
+}
+
+impl<B: Bank, P: Drop> Engine<B, P> {
+    // Takes all memory of a configuration that no rule refuses: its step is given, and its written form is in the buffer.
+    fn prepare_configuration(&mut self, texts: &SiteTexts) -> Result<Prepared, ConfigurationError>
+        requires { AreWithin texts.now }
+        ensures step { IfOk result (λ prepared. prepared.step ≡ (bare_step self.old.clock (Configured texts.now)).step) }
+        ensures read { OnOk result (refusal_of texts.now ≡ None) }
+        ensures refused { IfErr result (TellsRefusal texts.now) }
+        ensures written { IfOk result (λ prepared. self.new.payload.items ≡ written prepared.step) }
+        ensures bounded { OnOk result (IsPayload self.new.payload.items) }
+        ensures range { IfOk result (λ prepared. InRange prepared.step) }
+        ensures prepared { IfOk result (IsPrepared self.new.site) }
+        ensures unmoved { IsUnmoved self.old self.new }
+    {
+        let setting = Setting::new(self.alloc, texts)?;
+        let Ok(copy) = copy_texts(texts) else {
+            return Err(ConfigurationError::NoMemory);
+        };
+        let step = Step {
+            moment: self.clock,
+            kind: StepKind::Configured(copy),
+        };
+        let Ok(()) = write_payload(&step, &mut self.payload) else {
+            return Err(ConfigurationError::NoMemory);
+        };
+        Ok(Prepared {
+            step,
+            setting: Some(setting),
+        })
+    }
+
+    /// Configures the site by these texts, where it has no file. The event's moment is the clock.
+    pub fn configure(&mut self, texts: &SiteTexts) -> Reply
+        requires { self.old.due ≡ false }
+        ensures turn { (told : Bool) → (IsTrue told → IsTrue B.tells) → (history : Seq HistoryStep) → StandsFor told B.view self.old (at history self.old.clock)
+            → (w : World) × Turn self.old.journal.size told history (ConfigureEvent texts.now) self.old.clock (B.last_fault self.new.bank) result w × Moves told B.view self.old self.new (at history self.old.clock) w }
+        ensures fault { result ≡ Reply.BankFault → Rose (B.faults self.old.bank) (B.faults self.new.bank) }
+        ensures later { B.faults self.old.bank ≤ B.faults self.new.bank }
+        ensures ready { result ≢ Reply.BankFault → self.new.due ≡ false }
+        ensures journal { (size : ℕ) (c : Content) → RepliesJournal size c result }
+        ensures size { self.new.journal.size ≡ self.old.journal.size }
+        ensures patterns { self.new.patterns ≡ self.old.patterns }
+        ensures moment { IsTrue B.tells → (B.view self.old.bank).moment ≤ (B.view self.new.bank).moment }
+    {
+        if let Some(rule) = self.site.configure_rule(texts) {
+            return Reply::Refused(rule);
+        }
+        let prepared = match self.prepare_configuration(texts) {
+            Ok(prepared) => prepared,
+            Err(ConfigurationError::Refused(refusal)) => {
+                return Reply::ConfRefused {
+                    file: refusal.file,
+                    line: refusal.line,
+                    fault: refusal.fault,
+                };
+            }
+            Err(ConfigurationError::NoMemory) => return Reply::NoMemory,
+        };
+        if !self.journal.has_room(self.payload.len()) {
+            return Reply::JournalFull;
+        }
+        match self.commit(prepared) {
+            Ok(()) => Reply::Done(0),
+            Err(_) => Reply::BankFault,
+        }
+    }
+}

@@ -1,0 +1,101 @@
+-- Which answers are a cause of a status.
+use Rattle.std.proofs.Common.{◌≡◌, ◌⊎◌, inl, inr, ℕ, ◌+◌, ◌≤◌, List, length, refl, ap, arith, Bool, true, false, not, cond, Option, Some, None, IfSome}
+use Rattle.std.specs.Prelude.{option_map}
+use Rattle.site_text.specs.Causes.{AreCounted}
+use Rattle.records.specs.declared.event.Event.{Event}
+use Rattle.records.specs.declared.event.Event.TheVariants.{Put as PutEvent, Read as ReadEvent, Remove as RemoveEvent, Configure as ConfigureEvent}
+use Rattle.records.specs.declared.reply.Reply.{Reply}
+use Rattle.records.specs.declared.reply.Reply.TheVariants.{Bytes, BankFault, FolderFault, BadJournal, NoMemory}
+use Rattle.records.specs.declared.reply.Rule.{Rule}
+use Rattle.records.specs.declared.file.FileRec.{FileRec}
+use Rattle.records.specs.declared.file.SiteTexts.{SiteTexts}
+use Rattle.configuration.specs.declared.read.FileRefusal.{FileRefusal}
+use Rattle.configuration.specs.Readings.{refusal_of, are_within}
+use Rattle.site_history.specs.Site.{Fields, FileBytes, Site, file_at}
+use Rattle.site_history.specs.Steps.{HistoryStep}
+use Rattle.site_history.specs.Answers.{Answer, answer_to, put_rule, put_answer_by, read_answer_of, remove_answer_of, conf_refused, has_files, configure_refusal, configure_answer, configure_answer_by}
+use Rattle.site_history.specs.Histories.{after}
+use Rattle.site_history.specs.Worlds.{World, Turn, EventTurn, EventTurnBy, Goes, course_of, answer_in, has_room, moment_of, clock_from, IsReply}
+use Rattle.session.specs.Rounds.{cause_of, faults_of, folder_faults_of}
+
+-- A choice of two answers that are no cause is none.
+chosen : (t : Bool) (a b : Answer) → cause_of a.reply ≡ 0 → cause_of b.reply ≡ 0 → cause_of (cond t a b).reply ≡ 0
+chosen true a b h k = h
+chosen false a b h k = k
+
+-- The answer to a put, a read or a removal is no cause of a status.
+put_calm : (rule : Option Rule) (fields : Fields) (moment : ℕ) (path owner group bytes : List ℕ) → cause_of (put_answer_by rule fields moment path owner group bytes).reply ≡ 0
+put_calm (Some rule) fields moment path owner group bytes = refl
+put_calm None fields moment path owner group bytes = refl
+
+read_calm : (file : Option FileRec) (contents : List FileBytes) (moment upto : ℕ) → cause_of (read_answer_of file contents moment upto).reply ≡ 0
+read_calm None contents moment upto = refl
+read_calm (Some file) contents moment upto = refl
+
+remove_calm : (file : Option FileRec) (moment : ℕ) → cause_of (remove_answer_of file moment).reply ≡ 0
+remove_calm None moment = refl
+remove_calm (Some file) moment = refl
+
+-- Nor is that to a configuration.
+refusal_chosen : (t : Bool) (a b : Option Reply) → IfSome a (λ reply. cause_of reply ≡ 0) → IfSome b (λ reply. cause_of reply ≡ 0) → IfSome (cond t a b) (λ reply. cause_of reply ≡ 0)
+refusal_chosen true a b h k = h
+refusal_chosen false a b h k = k
+
+conf_calm : (refusal : Option FileRefusal) → IfSome (option_map conf_refused refusal) (λ reply. cause_of reply ≡ 0)
+conf_calm None = tt
+conf_calm (Some refusal) = refl
+
+configure_calm : (refusal : Option Reply) (moment : ℕ) (texts : SiteTexts) → IfSome refusal (λ reply. cause_of reply ≡ 0) → cause_of (configure_answer_by refusal moment texts).reply ≡ 0
+configure_calm (Some reply) moment texts calm = calm
+configure_calm None moment texts calm = refl
+
+configuration_calm : (fields : Fields) (moment : ℕ) (texts : SiteTexts) → cause_of (configure_answer fields moment texts).reply ≡ 0
+configuration_calm fields moment texts = configure_calm (configure_refusal fields texts) moment texts
+    (refusal_chosen (has_files fields) _ _ refl (refusal_chosen (not (are_within texts)) _ _ refl (conf_calm (refusal_of texts))))
+
+-- Nor is the answer to any other event.
+answer_calm : (site : Site) (moment : ℕ) (event : Event) → cause_of (answer_to site moment event).reply ≡ 0
+answer_calm site moment (PutEvent path owner group bytes) = put_calm (put_rule site.fields path owner group (length bytes)) site.fields moment path owner group bytes
+answer_calm site moment (ReadEvent path upto) = read_calm (file_at path site.fields.files) site.contents moment upto
+answer_calm site moment (RemoveEvent path) = remove_calm (file_at path site.fields.files) moment
+answer_calm site moment (ConfigureEvent texts) = configuration_calm site.fields moment texts
+answer_calm site moment _ = refl
+
+-- What the machine answers is no cause of a status.
+machine_calm : (size : ℕ) (history : List HistoryStep) (moment : ℕ) (event : Event) → cause_of (answer_in size history moment event).reply ≡ 0
+machine_calm size history moment event =
+    chosen (has_room size history (answer_to (after history) moment event).step) _ _ (answer_calm (after history) moment event) refl
+
+-- A reply that is no cause of a status is the defined one.
+pub calm_goes : (reply : Reply) (area : ℕ) → cause_of reply ≡ 0 → course_of reply area ≡ Goes
+calm_goes BankFault area e = absurd (omega (arith, e))
+calm_goes NoMemory area e = absurd (omega (arith, e))
+calm_goes _ area e = refl
+
+-- A reply that is the defined one, but for its bytes, is as much of a cause.
+same_cause : (told : Bool) (defined reply : Reply) → IsReply told defined reply → cause_of reply ≡ cause_of defined
+same_cause true defined reply e = ap cause_of e
+same_cause false (Bytes defined) reply h = ap cause_of h.1
+same_cause false _ reply e = ap cause_of e
+
+-- The cause that a reply is: none, a fault of the store or of the folder, or want of memory.
+abbrev pub CauseOf : Reply → Type 0
+CauseOf reply = (cause_of reply ≡ 0) ⊎ (((cause_of reply ≡ 3) × (faults_of reply + folder_faults_of reply ≡ 1)) ⊎ (cause_of reply ≡ 9))
+
+pub turn_cause : (size : ℕ) (told : Bool) (history : List HistoryStep) (event : Event) (moment area : ℕ) (reply : Reply) (w' : World) → Turn size told history event moment area reply w' → CauseOf reply
+turn_cause size told history event moment area BankFault w' turn = inr (inl (refl, refl))
+turn_cause size told history event moment area NoMemory w' turn = inr (inr refl)
+turn_cause size told history event moment area FolderFault w' turn = absurd (omega (arith, same_cause told _ FolderFault turn.0, machine_calm size history moment event))
+turn_cause size told history event moment area (BadJournal place) w' turn = absurd (omega (arith, same_cause told _ (BadJournal place) turn.0, machine_calm size history moment event))
+turn_cause size told history event moment area _ w' turn = inl refl
+
+-- An event tells no fault of the folder.
+no_folder_fault : (due : Bool) (size : ℕ) (told : Bool) (w : World) (event : Event) (now area : ℕ) (w' : World) → EventTurnBy due size told w event now area FolderFault w' → ⊥
+no_folder_fault false size told w event now area w' turn = omega (arith, same_cause told _ FolderFault turn.0, machine_calm size w.history (moment_of w.clock now) event)
+no_folder_fault true size told w event now area w' (inl (steps, reopened, turn)) = omega (arith, same_cause told _ FolderFault turn.0, machine_calm size steps (moment_of (clock_from told w steps) now) event)
+no_folder_fault true size told w event now area w' (inr (refuses, same)) = refuses
+
+pub event_folder : (size : ℕ) (told : Bool) (w : World) (event : Event) (now area : ℕ) (reply : Reply) (w' : World) (before after : ℕ) → EventTurn size told w event now area reply w' → before ≤ after
+    → AreCounted before (folder_faults_of reply) after
+event_folder size told w event now area FolderFault w' before after turn later = absurd (no_folder_fault w.due size told w event now area w' turn)
+event_folder size told w event now area _ w' before after turn later = omega (arith, later)
