@@ -1,7 +1,6 @@
 -- A read of a file that is there.
 use Rattle.std.proofs.Common.{◌≡◌, ℕ, ◌*◌, ◌≤◌, List, length, take, get_or, min, refl, sym, ◌∙◌, ap, subst, arith, Bool, Some}
-use Rattle.std.specs.Prelude.{position, IsTrue}
-use Rattle.std.specs.Str.{bytes_eq}
+use Rattle.std.specs.Prelude.{IsTrue}
 use Rattle.std.proofs.lemmas.List.{take_min}
 use Rattle.bank.specs.View.{View, IsSound}
 use Rattle.records.specs.declared.event.Event.TheVariants.{Read as ReadEvent}
@@ -11,8 +10,8 @@ use Rattle.records.specs.declared.reply.Reply.TheVariants.{Bytes}
 use Rattle.records.specs.declared.step.StepKind.TheVariants.{Accessed}
 use Rattle.records.specs.Written.{written}
 use Rattle.cache_space.specs.Space.{blocks_in}
-use Rattle.site_history.specs.Site.{bytes_of}
-use Rattle.site_history.specs.Steps.{HistoryStep, IsLegal}
+use Rattle.site_history.specs.Site.{bytes_of, file_at}
+use Rattle.site_history.specs.Steps.{HistoryStep}
 use Rattle.site_history.specs.Histories.{after}
 use Rattle.site_history.specs.Worlds.{at}
 use Rattle.site_history.specs.Answers.{bare_step, answer_to}
@@ -24,69 +23,64 @@ use Rattle.site_history.proofs.Turns.{read-found}
 use Rattle.engine.specs.declared.kept.Engine.{Engine}
 use Rattle.engine.specs.StandsFor.{StandsFor}
 use Rattle.engine.specs.Ready.{IsReady}
-use Rattle.engine.proofs.Found.{keeps_it, item, item_is, item_within, item_found, item_of}
+use Rattle.engine.proofs.Found.{file_of, place_of}
 
 module _ {B P : Type 0} (told : Bool) (view : B → View) (engine : Engine B P) (history : List HistoryStep) (stands : StandsFor told view engine (at history engine.clock))
-    (path : List ℕ) (index : ℕ) (found : position (λ (file : FileRec). bytes_eq file.path path) engine.site.files.list ≡ Some index)
-    (inode : ℕ) (is : inode ≡ (item told view engine history stands path index found).inode) where
-  abbrev file : FileRec
-  file = item told view engine history stands path index found
-
+    (path : List ℕ) (file : FileRec) (found : file_at path (after history).fields.files ≡ Some file) where
   -- the bytes of the file
   abbrev pub file_bytes : List ℕ
-  file_bytes = bytes_of (after history).contents (item told view engine history stands path index found).inode
+  file_bytes = bytes_of (after history).contents file.inode
+
+  -- its step
+  abbrev pub accessing : HistoryStep
+  accessing = bare_step engine.clock (Accessed file.inode)
 
   -- the answer
-  pub access_answered : (upto : ℕ) → answer_to (after history) engine.clock (ReadEvent path upto) ≡ record { reply = Bytes (take upto file_bytes); step = Some (bare_step engine.clock (Accessed inode)) }
-  access_answered upto = subst (λ (n : ℕ). answer_to (after history) engine.clock (ReadEvent path upto) ≡ record { reply = Bytes (take upto file_bytes); step = Some (bare_step engine.clock (Accessed n)) }) (sym is)
-      (read-found (after history) engine.clock path upto file (item_found told view engine history stands path index found))
+  pub access_answered : (upto : ℕ) → answer_to (after history) engine.clock (ReadEvent path upto) ≡ record { reply = Bytes (take upto file_bytes); step = Some accessing }
+  access_answered upto = read-found (after history) engine.clock path upto file found
 
   -- its step is ready to be recorded once its written form is in the buffer
-  pub access_ready : (mid : Engine B P) → StandsFor told view mid (at history mid.clock) → mid.clock ≡ engine.clock → mid.payload.items ≡ written (bare_step engine.clock (Accessed inode)).step
-      → IsReady told view mid history (bare_step engine.clock (Accessed inode))
+  pub access_ready : (mid : Engine B P) → StandsFor told view mid (at history mid.clock) → mid.clock ≡ engine.clock → mid.payload.items ≡ written accessing.step
+      → IsReady told view mid history accessing
   access_ready mid stands_then clock form = record {
     stands = stands_then;
-    legal = subst (λ (n : ℕ). IsLegal (after history).fields (bare_step engine.clock (Accessed n)).step) (sym is)
-        (accessed_legal (length history) (after history) file (item_of told view engine history stands path index found) engine.clock stands.in_time engine.range);
+    legal = accessed_legal (length history) (after history) file (file_of told view engine history stands path file found) engine.clock stands.in_time engine.range;
     bytes = refl;
     form = form;
     moment = sym clock;
     stored = λ t. tt;
   }
 
-  -- the file that the code finds at the index
-  pub listed_file : (listed : List FileRec) (here : FileRec) → listed ≡ engine.site.files.list → here ≡ get_or listed index here → here ≡ file
-  listed_file listed here same at = at ∙ ap (λ (l : List FileRec). get_or l index here) same ∙ item_is told view engine history stands path index found here
+  kept_length : length file_bytes ≡ file.length
+  kept_length = (file_of told view engine history stands path file found).kept.bytes
 
-  module _ (here : FileRec) (here_is : here ≡ file) (count upto : ℕ) (count_is : count ≡ min here.length upto) where
-    kept_length : length file_bytes ≡ file.length
-    kept_length = (item_of told view engine history stands path index found).kept.bytes
-
+  module _ (count upto : ℕ) (count_is : count ≡ min file.length upto) where
     count_bytes : count ≡ min upto (length file_bytes)
-    count_bytes = omega (arith, count_is, ap (λ (f : FileRec). f.length) here_is, kept_length)
+    count_bytes = omega (arith, count_is, kept_length)
 
     -- as many bytes are answered as the answer has
     pub read_as_many : (got : List ℕ) → length got ≡ count → length got ≡ length (take upto file_bytes)
-    read_as_many got long = omega (arith, long, count_bytes, kept_length, read_length (length history) (after history) file (item_of told view engine history stands path index found) upto)
+    read_as_many got long = omega (arith, long, count_bytes, kept_length, read_length (length history) (after history) file (file_of told view engine history stands path file found) upto)
 
     -- the runs have room for them
     pub read_within : (runs : List Run) → runs ≡ file.runs → count ≤ blocks_in runs * 4096
-    read_within runs same = omega (arith, count_is, ap (λ (f : FileRec). f.length) here_is, ap blocks_in same, (item_of told view engine history stands path index found).kept.blocks)
+    read_within runs same = omega (arith, count_is, ap blocks_in same, (file_of told view engine history stands path file found).kept.blocks)
 
     pub read_enough : count ≤ length file_bytes
     read_enough = omega (arith, count_bytes)
 
-    -- and the bytes stand there
-    pub read_stands : (runs : List Run) → runs ≡ file.runs → IsTrue told → IsSound (view engine.bank) → AllStand (view engine.bank).content (extents_over runs file_bytes)
-    read_stands runs same t sound =
-        let pinned = pinned_by_world engine.journal.size (view engine.bank) (at history engine.clock) sound refl (stands.images t) in
-        let there : get_or (after history).fields.files index file ≡ file = ap (λ (l : List FileRec). get_or l index file) (sym (keeps_it told view engine history stands).files) ∙ item_is told view engine history stands path index found file in
-        let whole = (item_of told view engine history stands path index found).kept.cached in
-        subst (λ (l : List Run). AllStand (view engine.bank).content (extents_over l file_bytes)) (sym same)
-        (subst (λ (f : FileRec). AllStand (view engine.bank).content (extents_over f.runs (bytes_of (after history).contents f.inode))) there
-        (pinned_file engine.journal.size (view engine.bank) history index file sound pinned (item_within told view engine history stands path index found)
-        (subst (λ (f : FileRec). length (bytes_of (after history).contents f.inode) ≤ f.cached) (sym there) (omega (arith, whole, kept_length)))))
-
     -- so many of them are those of the answer
     pub read_same : (got : List ℕ) → got ≡ take count file_bytes → got ≡ take upto file_bytes
     read_same got same_bytes = same_bytes ∙ ap (λ (n : ℕ). take n file_bytes) count_bytes ∙ take_min upto file_bytes
+
+  -- and the bytes stand there
+  pub read_stands : (runs : List Run) → runs ≡ file.runs → IsTrue told → IsSound (view engine.bank) → AllStand (view engine.bank).content (extents_over runs file_bytes)
+  read_stands runs same t sound =
+      let pinned = pinned_by_world engine.journal.size (view engine.bank) (at history engine.clock) sound refl (stands.images t) in
+      let place = place_of told view engine history stands path file found in
+      let there : get_or (after history).fields.files place.0 file ≡ file = place.2 file in
+      let whole = (file_of told view engine history stands path file found).kept.cached in
+      subst (λ (l : List Run). AllStand (view engine.bank).content (extents_over l file_bytes)) (sym same)
+      (subst (λ (f : FileRec). AllStand (view engine.bank).content (extents_over f.runs (bytes_of (after history).contents f.inode))) there
+      (pinned_file engine.journal.size (view engine.bank) history place.0 file sound pinned place.1
+      (subst (λ (f : FileRec). length (bytes_of (after history).contents f.inode) ≤ f.cached) (sym there) (omega (arith, whole, kept_length)))))

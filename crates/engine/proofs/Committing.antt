@@ -18,7 +18,8 @@ use Rattle.site_history.proofs.Reopenings.{pinned_by_world}
 use Rattle.site_history.proofs.Commits.{step_ready, commit_moments, commit_pinned, commit_faulted}
 use Rattle.site_history.proofs.Turns.{moment-push, owing-in_time}
 use Rattle.engine.specs.declared.kept.Engine.{Engine}
-use Rattle.engine.specs.StandsFor.{Keeps, IsInStep, StandsFor, Moves}
+use Rattle.site_state.specs.Keeps.{Keeps}
+use Rattle.engine.specs.StandsFor.{IsInStep, StandsFor, Moves}
 use Rattle.engine.specs.Ready.{IsReady, owing}
 
 module _ {B P : Type 0} (told : Bool) (view : B → View) (old new : Engine B P) (history : List HistoryStep) (made : HistoryStep) (ready : IsReady told view old history made) where

@@ -19,7 +19,8 @@ use Rattle.site_history.proofs.Configuring.{configure-admitted, configure-legal}
 use Rattle.site_history.proofs.Turns.{configure-made}
 use Rattle.engine.specs.declared.kept.Engine.{Engine}
 use Rattle.engine.specs.Ready.{IsReady, owing}
-use Rattle.engine.specs.StandsFor.{Keeps, StandsFor, Moves}
+use Rattle.site_state.specs.Keeps.{Keeps}
+use Rattle.engine.specs.StandsFor.{StandsFor, Moves}
 use Rattle.engine.proofs.Turning.{stands_read, stays_here, moments_since, moves_behind}
 
 module _ {B P : Type 0} (told : Bool) (view : B → View) (engine : Engine B P) (history : List HistoryStep) (stands : StandsFor told view engine (at history engine.clock)) where

@@ -26,8 +26,9 @@ use Rattle.site_history.proofs.Extents.{site_clear}
 use Rattle.site_history.proofs.Reopenings.{pinned_by_world}
 use Rattle.site_history.proofs.WritesElsewhere.{still_pinned, still_reads}
 use Rattle.engine.specs.declared.kept.Engine.{Engine}
-use Rattle.engine.specs.Fields.{put_runs}
-use Rattle.engine.specs.StandsFor.{Keeps, StandsFor, Moves}
+use Rattle.site_state.specs.Fields.{put_runs}
+use Rattle.site_state.specs.Keeps.{Keeps}
+use Rattle.engine.specs.StandsFor.{StandsFor, Moves}
 use Rattle.engine.proofs.Turning.{stands_still, moves_behind}
 use Rattle.journal.specs.State.{JournalState}
 use Rattle.engine.specs.Ready.{IsReady, owing}

@@ -11,12 +11,14 @@ use Rattle.journal.proofs.Held.{records-front, records-back}
 use Rattle.site_history.specs.Images.{written_forms}
 use Rattle.site_history.specs.Journals.{IsBadJournal}
 use Rattle.site_history.proofs.JournalLaws.{end_of-history}
-use Rattle.engine.specs.declared.kept.SiteFiles.{SiteFiles}
-use Rattle.engine.specs.declared.engine.ShutCause.{ShutCause}
+use Rattle.site_state.specs.declared.state.SiteState.{SiteState}
+use Rattle.site_state.specs.declared.replays.ReplayRefusal.{ReplayRefusal}
+use Rattle.site_state.specs.declared.replays.ReplayRefusal.TheVariants.{BadStep, NoMemory as Wanting}
+use Rattle.site_state.specs.Replays.{Replays, HasBadPayload, TellsPayloads}
+use Rattle.site_state.proofs.Replaying.{replayed_count}
 use Rattle.engine.specs.declared.engine.ShutCause.TheVariants.{BankFault, BadJournal, NoMemory}
-use Rattle.engine.specs.Journals.{TellsJournal}
-use Rattle.engine.specs.Replays.{Replays, HasBadPayload, TellsPayloads, IsReplayed}
-use Rattle.engine.proofs.Replaying.{replayed_count}
+use Rattle.engine.specs.Journals.{TellsJournal, cause_of}
+use Rattle.engine.specs.Replayed.{IsReplayed}
 
 -- a payload of no step that may come makes the journal bad where its record stands
 pub bad_step : (size : ℕ) (c : Content) (payloads : List (List ℕ)) (place : ℕ) → size ≤ 268435456 → AreRecords c 0 payloads size → HasBadPayload payloads place → IsBadJournal size c place
@@ -37,22 +39,21 @@ bad_step size c payloads place small records bad =
     }
 
 -- and so does a length that no record has, behind the records of a history
-pub bad_length : (size : ℕ) (c : Content) (site : SiteFiles) (payloads : List (List ℕ)) (place : ℕ) → Replays site payloads → IsBadAt c place size payloads → IsBadJournal size c place
+pub bad_length : (size : ℕ) (c : Content) (site : SiteState) (payloads : List (List ℕ)) (place : ℕ) → Replays site payloads → IsBadAt c place size payloads → IsBadJournal size c place
 bad_length size c site payloads place h bad = record { steps = h.steps; history = h.history; bad = inl (subst (λ (l : List (List ℕ)). IsBadAt c place size l) h.forms bad) }
 
-pub tells_journal : (size : ℕ) (c : Content) (payloads : List (List ℕ)) (cause : ShutCause) → size ≤ 268435456 → AreRecords c 0 payloads size → TellsPayloads payloads cause → TellsJournal size c cause
-tells_journal size c payloads BankFault small records tells = tt
-tells_journal size c payloads (BadJournal place) small records tells = bad_step size c payloads place small records tells
-tells_journal size c payloads NoMemory small records tells = tt
+pub tells_journal : (size : ℕ) (c : Content) (payloads : List (List ℕ)) (refusal : ReplayRefusal) → size ≤ 268435456 → AreRecords c 0 payloads size → TellsPayloads payloads refusal
+    → TellsJournal size c (cause_of refusal)
+tells_journal size c payloads (BadStep place) small records tells = bad_step size c payloads place small records tells
+tells_journal size c payloads Wanting small records tells = tt
 
 -- payloads are not refused for a fault of the store
-pub no_fault : (payloads : List (List ℕ)) (cause : ShutCause) → TellsPayloads payloads cause → cause ≡ BankFault → ⊥
-no_fault payloads BankFault tells is = tells
-no_fault payloads (BadJournal place) tells is = let differs : BadJournal place ≡ BankFault = is in cc
-no_fault payloads NoMemory tells is = let differs : NoMemory ≡ BankFault = is in cc
+pub no_fault : (refusal : ReplayRefusal) → cause_of refusal ≡ BankFault → ⊥
+no_fault (BadStep place) is = let differs : BadJournal place ≡ BankFault = is in cc
+no_fault Wanting is = let differs : NoMemory ≡ BankFault = is in cc
 
 -- the journal's count and place are those of the history
-pub replayed : (journal : JournalState) (site : SiteFiles) (payloads : List (List ℕ)) (h : Replays site payloads) → journal.count ≡ length payloads → journal.place ≡ end_of 0 payloads
+pub replayed : (journal : JournalState) (site : SiteState) (payloads : List (List ℕ)) (h : Replays site payloads) → journal.count ≡ length payloads → journal.place ≡ end_of 0 payloads
     → IsReplayed journal site h.steps
 replayed journal site payloads h count place = record {
   history = h.history;

@@ -14,7 +14,8 @@ use Rattle.site_history.specs.Histories.{after}
 use Rattle.site_history.specs.Worlds.{World, at, moment_of, Turn, IsReopened, clock_from, RefusesReopening, EventTurnBy, EventTurn}
 use Rattle.site_history.specs.Images.{Reads, ReadsAs}
 use Rattle.engine.specs.declared.kept.Engine.{Engine}
-use Rattle.engine.specs.StandsFor.{Keeps, StandsFor, Moves, IsRecovered, StaysFor}
+use Rattle.site_state.specs.Keeps.{Keeps}
+use Rattle.engine.specs.StandsFor.{StandsFor, Moves, IsRecovered, StaysFor}
 
 -- Time goes on: the engine stands for the same history at a later moment.
 pub stands_later : {B P : Type 0} (told : Bool) (view : B → View) (old new : Engine B P) (history : List HistoryStep) (clock : ℕ) → StandsFor told view old (at history clock)

@@ -15,16 +15,17 @@ use Rattle.site_history.proofs.HistoryLaws.{history-front}
 use Rattle.site_history.proofs.Turns.{moment-push}
 use Rattle.site_history.proofs.JournalLaws.{bare, same_steps, same_fields, same_count, same_journal_length, not_bad_journal, bad_journal_same, holds_history_same}
 use Rattle.site_history.proofs.Reopenings.{decided, images_after_reading, moments_of_reading, found_settled}
-use Rattle.engine.specs.declared.kept.SiteFiles.{SiteFiles}
+use Rattle.site_state.specs.declared.state.SiteState.{SiteState}
 use Rattle.engine.specs.declared.kept.Engine.{Engine}
 use Rattle.engine.specs.declared.engine.ShutCause.{ShutCause}
 use Rattle.engine.specs.declared.engine.ShutCause.TheVariants.{BankFault, BadJournal, NoMemory}
 use Rattle.engine.specs.Journals.{TellsJournal}
-use Rattle.engine.specs.Replays.{IsReplayed}
-use Rattle.engine.specs.StandsFor.{Keeps, StandsFor, IsRecovered, StaysFor}
+use Rattle.engine.specs.Replayed.{IsReplayed}
+use Rattle.site_state.specs.Keeps.{Keeps}
+use Rattle.engine.specs.StandsFor.{StandsFor, IsRecovered, StaysFor}
 
 -- what was replayed is also what another history leaves, whose steps are written alike
-pub same_replayed : (journal : JournalState) (site : SiteFiles) (xs ys : List HistoryStep) → IsReplayed journal site xs → IsHistory ys → written_forms xs ≡ written_forms ys → IsReplayed journal site ys
+pub same_replayed : (journal : JournalState) (site : SiteState) (xs ys : List HistoryStep) → IsReplayed journal site xs → IsHistory ys → written_forms xs ≡ written_forms ys → IsReplayed journal site ys
 same_replayed journal site xs ys h history forms =
     let alike : bare xs ≡ bare ys = same_steps xs ys h.history history forms in
     record {
@@ -87,7 +88,7 @@ module _ {B P : Type 0} (view : B → View) (old new : Engine B P) (w : World) w
       in_step = λ not_due. let was = s.in_step (sym due ∙ not_due) in (
         was.0,
         record {
-          keeps = subst (λ (x : SiteFiles). Keeps x (after w.history).fields) (sym site) was.1.keeps;
+          keeps = subst (λ (x : SiteState). Keeps x (after w.history).fields) (sym site) was.1.keeps;
           count = ap (λ (j : JournalState). j.count) journal ∙ was.1.count;
           place = ap (λ (j : JournalState). j.place) journal ∙ was.1.place;
         },

@@ -5,27 +5,14 @@ use Rattle.bank.specs.Content.{Image}
 use Rattle.bank.specs.View.{View, IsImage, OnlyRead, LeavesOnly}
 use Rattle.bank.proofs.Moments.{weakened, joined}
 use Rattle.journal.specs.State.{JournalState}
-use Rattle.configuration.specs.declared.read.Configuration.{Configuration}
-use Rattle.configuration.specs.Says.{Says}
 use Rattle.site_history.specs.Site.{Fields}
 use Rattle.site_history.specs.Histories.{after}
 use Rattle.site_history.specs.Worlds.{World}
 use Rattle.site_history.specs.Images.{ReadsAs}
 use Rattle.site_history.proofs.Reopenings.{images_after_reading, moments_of_reading}
-use Rattle.engine.specs.declared.kept.SiteFiles.{SiteFiles}
 use Rattle.engine.specs.declared.kept.Engine.{Engine}
-use Rattle.engine.specs.StandsFor.{Keeps, StandsFor, Moves}
-
--- Files that are as they were are those of the same fields.
-pub keeps_again : (old new : SiteFiles) → new.files.list ≡ old.files.list → new.next_inode ≡ old.next_inode → new.moment ≡ old.moment → new.configuration ≡ old.configuration → new.space ≡ old.space
-    → (fields : Fields) → Keeps old fields → Keeps new fields
-keeps_again old new files next_inode moment configuration space fields k = record {
-  files = files ∙ k.files;
-  next_inode = next_inode ∙ k.next_inode;
-  moment = moment ∙ k.moment;
-  configuration = subst (λ (c : Configuration). Says fields.texts c) (sym configuration) k.configuration;
-  space = space ∙ k.space;
-}
+use Rattle.site_state.specs.Keeps.{Keeps}
+use Rattle.engine.specs.StandsFor.{StandsFor, Moves}
 
 -- An engine whose files, journal, count and clock are as they were stands for the same world, if each image still reads as it.
 pub stands_still : {B P : Type 0} (told : Bool) (view : B → View) (old new : Engine B P) (w : World) → StandsFor told view old w

@@ -1,9 +1,4 @@
-pub mod Fields
-pub mod FileList
-pub mod Room
-pub mod Legal
-pub mod Replays
 pub mod StandsFor
+pub mod Replayed
 pub mod Journals
-pub mod Inside
 pub mod Ready

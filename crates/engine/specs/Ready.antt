@@ -2,10 +2,12 @@
 use Rattle.std.specs.Prelude.{◌≡◌, ℕ, Bool, true, IsTrue, Some, List}
 use Rattle.bank.specs.View.{View}
 use Rattle.records.specs.Written.{written}
+use Rattle.site_history.specs.Site.{Fields}
 use Rattle.site_history.specs.Steps.{HistoryStep, IsLegal, HasBytes}
 use Rattle.site_history.specs.Histories.{after}
 use Rattle.site_history.specs.Worlds.{World, at}
 use Rattle.site_history.specs.Pinned.{StandInAll, put_extents}
+use Rattle.site_state.specs.Keeps.{Keeps}
 use Rattle.engine.specs.declared.kept.Engine.{Engine}
 use Rattle.engine.specs.StandsFor.{StandsFor}
 
@@ -28,11 +30,7 @@ pub record IsUnmoved {B P : Type 0} (old new : Engine B P) : Type 0 where
   pub bank : new.bank ≡ old.bank
   pub patterns : new.patterns ≡ old.patterns
   pub journal : new.journal ≡ old.journal
-  pub files : new.site.files.list ≡ old.site.files.list
-  pub next_inode : new.site.next_inode ≡ old.site.next_inode
-  pub moment : new.site.moment ≡ old.site.moment
-  pub configuration : new.site.configuration ≡ old.site.configuration
-  pub space : new.site.space ≡ old.site.space
+  pub keeps : (fields : Fields) → Keeps old.site fields → Keeps new.site fields
   pub steps : new.steps ≡ old.steps
   pub clock : new.clock ≡ old.clock
   pub due : new.due ≡ old.due

@@ -2,23 +2,12 @@
 use Rattle.std.specs.Prelude.{◌≡◌, ◌⊎◌, ◌<◌, ◌^◌, ◌≤◌, length, Bool, false, IsTrue, None, Some, List}
 use Rattle.bank.specs.Content.{Image}
 use Rattle.bank.specs.View.{View, IsImage, LeavesOnly}
-use Rattle.configuration.specs.Says.{Says}
-use Rattle.cache_space.specs.Space.{taken_by}
-use Rattle.site_history.specs.Site.{Fields, held_runs, cache_blocks}
 use Rattle.site_history.specs.Steps.{HistoryStep}
 use Rattle.site_history.specs.Histories.{after, IsHistory, journal_length}
 use Rattle.site_history.specs.Worlds.{World, site_of, at, IsReopened, clock_from}
 use Rattle.site_history.specs.Images.{ReadsAs}
-use Rattle.engine.specs.declared.kept.SiteFiles.{SiteFiles}
+use Rattle.site_state.specs.Keeps.{Keeps}
 use Rattle.engine.specs.declared.kept.Engine.{Engine}
-
--- these files are those of the fields, the configuration is what their texts say, and the blocks that are taken are theirs
-pub record Keeps (site : SiteFiles) (fields : Fields) : Type 0 where
-  pub files : site.files.list ≡ fields.files
-  pub next_inode : site.next_inode ≡ fields.next_inode
-  pub moment : site.moment ≡ fields.moment
-  pub configuration : Says fields.texts site.configuration
-  pub space : site.space ≡ taken_by (cache_blocks fields) (held_runs fields.files)
 
 -- the engine keeps what this history leaves, and its journal goes on where the records of these steps end
 pub record IsInStep {B P : Type 0} (engine : Engine B P) (steps : List HistoryStep) : Type 0 where

@@ -7,13 +7,13 @@ ghost use Rattle.journal.specs.Records.{IsPayload};
 ghost use Rattle.site_history.specs.Steps.{HistoryStep};
 ghost use Rattle.site_history.specs.Worlds.{at};
 ghost use Rattle.engine.specs.Ready.{IsReady, owing};
-ghost use Rattle.engine.specs.Room.{IsPrepared};
+ghost use Rattle.site_state.specs.Room.{IsPrepared};
 ghost use Rattle.engine.specs.StandsFor.{Moves};
 
 use crate::kept::Engine;
-use crate::prepare::Prepared;
 use bank::{Bank, BankFailed};
 use journal::AppendRefusal;
+use site_state::Prepared;
 
 impl<B: Bank, P: Drop> Engine<B, P> {
     /// Records a step whose written form is the payload, and for which the journal has room, and makes it. At an error a

@@ -16,15 +16,15 @@ ghost use Rattle.site_history.specs.Answers.{bare_step, configure_refusal, conf_
 ghost use Rattle.site_history.specs.Worlds.{World, at, Turn};
 ghost use Rattle.engine.specs.Journals.{RepliesJournal};
 ghost use Rattle.engine.specs.Ready.{IsUnmoved};
-ghost use Rattle.engine.specs.Room.{IsPrepared};
-ghost use Rattle.engine.specs.StandsFor.{Keeps, StandsFor, Moves};
+ghost use Rattle.site_state.specs.Room.{IsPrepared};
+ghost use Rattle.engine.specs.StandsFor.{StandsFor, Moves};
 
-use crate::kept::{Engine, SiteFiles};
+use crate::kept::Engine;
 use crate::payload::write_payload;
-use crate::prepare::{Prepared, Setting};
 use bank::Bank;
-use configuration::{ConfigurationError, are_within};
-use records::{Reply, Rule, SiteTexts, Step, StepKind};
+use configuration::ConfigurationError;
+use records::{Reply, SiteTexts, Step, StepKind};
+use site_state::{Prepared, Setting};
 use std::alloc::AllocError;
 
 // A copy of the texts.
@@ -38,23 +38,6 @@ fn copy_texts(texts: &SiteTexts) -> Result<SiteTexts, AllocError>
         releaser: texts.releaser.copy()?,
         recycler: texts.recycler.copy()?,
     })
-}
-
-impl SiteFiles {
-    // The first rule that refuses to configure the site by these texts, whatever they say.
-    fn configure_rule(&self, texts: &SiteTexts) -> Option<Rule>
-        ensures refused { (fields : Fields) → Keeps self.now fields → IfSome result (λ rule. configure_refusal fields texts.now ≡ Some (Refused rule)) }
-        ensures left { (fields : Fields) → Keeps self.now fields → IfNone result (configure_refusal fields texts.now ≡ option_map conf_refused (refusal_of texts.now)) }
-        ensures within { IfNone result (AreWithin texts.now) }
-    {
-        if self.files.len() > 0 {
-            return Some(Rule::Running);
-        }
-        if !are_within(texts) {
-            return Some(Rule::TooLarge);
-        }
-        None
-    }
 }
 
 impl<B: Bank, P: Drop> Engine<B, P> {

@@ -1,51 +1,34 @@
 //! Puts.
 
 ghost use Rattle.std.specs.Prelude.{◌≡◌, ◌≢◌, ◌+◌, ◌<◌, ◌≤◌, ◌^◌, ◌++◌, [], ◌∷◌, ℕ, Bool, List as Seq, IsTrue, false, length, IfOk, OnOk};
-ghost use Rattle.std.specs.List.{AllByRecursion};
 ghost use Rattle.site_text.specs.Causes.{Rose};
 ghost use Rattle.records.specs.Paths.{is_legal_path, is_legal_name};
-ghost use Rattle.records.specs.Ranges.{IsInode, IsRun};
+ghost use Rattle.records.specs.Ranges.{IsInode};
 ghost use Rattle.records.specs.Written.{written, InRange};
 ghost use Rattle.records.specs.declared.event.Event.TheVariants.{Put as PutEvent};
-ghost use Rattle.records.specs.declared.file.Run.{Run};
 ghost use Rattle.journal.specs.Records.{IsPayload};
 ghost use Rattle.cache_space.specs.Blocks.{blocks_for, free_blocks, lowest_runs};
-ghost use Rattle.cache_space.specs.Space.{taken_by, AreMaximal};
+ghost use Rattle.cache_space.specs.Space.{AreMaximal};
 ghost use Rattle.site_history.specs.Site.{Fields, held_runs, cache_blocks};
 ghost use Rattle.site_history.specs.Steps.{HistoryStep, inode_for};
 ghost use Rattle.site_history.specs.Answers.{put_made};
 ghost use Rattle.site_history.specs.Worlds.{World, at, Turn};
-ghost use Rattle.engine.specs.Fields.{put_runs};
+ghost use Rattle.site_state.specs.Fields.{put_runs};
 ghost use Rattle.engine.specs.Ready.{IsUnmoved};
-ghost use Rattle.engine.specs.Room.{IsPrepared};
+ghost use Rattle.site_state.specs.Keeps.{Keeps};
+ghost use Rattle.site_state.specs.Room.{IsPrepared};
 ghost use Rattle.bank.specs.Content.{Content};
 ghost use Rattle.engine.specs.Journals.{RepliesJournal};
-ghost use Rattle.engine.specs.StandsFor.{Keeps, StandsFor, Moves};
+ghost use Rattle.engine.specs.StandsFor.{StandsFor, Moves};
 
 use crate::data::store;
 use crate::kept::Engine;
 use crate::payload::write_payload;
-use crate::prepare::Prepared;
 use bank::Bank;
-use cache_space::{CacheSpace, blocks_needed};
 use records::{Reply, Run, Step, StepKind};
-use site_text::{Bytes, List};
+use site_state::{Place, Prepared};
+use site_text::Bytes;
 use std::alloc::AllocError;
-
-// The lowest free blocks for so many bytes.
-fn free_runs(space: &CacheSpace, size: u32) -> Result<List<Run>, AllocError>
-    ensures lowest { (total : ℕ) (held : Seq Run) → space.now ≡ taken_by total held → blocks_for size ≤ length (free_blocks total held)
-        → IfOk result (λ runs. runs ≡ lowest_runs total held (blocks_for size)) }
-    ensures few { IfOk result (λ runs. length runs ≤ blocks_for size) }
-    ensures small { IfOk result (λ runs. AllByRecursion IsRun runs) }
-    ensures maximal { IfOk result (λ runs. AreMaximal runs) }
-{
-    let _blocks = space.blocks();
-    match space.lowest(blocks_needed(size), &[]) {
-        Ok(runs) => Ok(runs),
-        Err(_) => Err(AllocError),
-    }
-}
 
 // The runs of a put's step.
 fn runs_of(step: &Step) -> &[Run]
@@ -61,16 +44,16 @@ impl<B: Bank, P: Drop> Engine<B, P> {
     // Takes all memory of a put that no rule refuses: its step is given, and its written form is in the buffer.
     fn prepare_put(
         &mut self,
-        inode: u32,
+        place: Place,
         path: &[u8],
         owner: &[u8],
         group: &[u8],
         size: u32,
     ) -> Result<Prepared, AllocError>
         requires small { size ≤ 16777216 }
-        requires inode { IsInode inode }
+        requires inode { IsInode place.inode }
         requires legal { IsTrue (is_legal_path path.now) × IsTrue (is_legal_name owner.now) × IsTrue (is_legal_name group.now) }
-        ensures step { (fields : Fields) → Keeps self.old.site fields → inode ≡ inode_for fields path.now → blocks_for size ≤ length (free_blocks (cache_blocks fields) (held_runs fields.files))
+        ensures step { (fields : Fields) → Keeps self.old.site fields → place.inode ≡ inode_for fields path.now → blocks_for size ≤ length (free_blocks (cache_blocks fields) (held_runs fields.files))
             → IfOk result (λ prepared. prepared.step ≡ put_made fields self.old.clock path.now owner.now group.now size) }
         ensures written { IfOk result (λ prepared. self.new.payload.items ≡ written prepared.step) }
         ensures bounded { OnOk result (IsPayload self.new.payload.items) }
@@ -79,11 +62,11 @@ impl<B: Bank, P: Drop> Engine<B, P> {
         ensures maximal { IfOk result (λ prepared. AreMaximal (put_runs prepared.step)) }
         ensures unmoved { IsUnmoved self.old self.new }
     {
-        let runs = free_runs(&self.site.space, size)?;
+        let runs = self.site.free_runs(size)?;
         let step = Step {
             moment: self.clock,
             kind: StepKind::Put {
-                inode,
+                inode: place.inode,
                 path: Bytes::from_slice(self.alloc, path)?,
                 owner: Bytes::from_slice(self.alloc, owner)?,
                 group: Bytes::from_slice(self.alloc, group)?,
@@ -92,7 +75,7 @@ impl<B: Bank, P: Drop> Engine<B, P> {
             },
         };
         write_payload(&step, &mut self.payload)?;
-        self.site.files.reserve()?;
+        self.site.make_room()?;
         Ok(Prepared {
             step,
             setting: None,
@@ -112,11 +95,11 @@ impl<B: Bank, P: Drop> Engine<B, P> {
         ensures patterns { self.new.patterns ≡ self.old.patterns }
         ensures moment { IsTrue B.tells → (B.view self.old.bank).moment ≤ (B.view self.new.bank).moment }
     {
-        if let Some(rule) = self.site.put_rule(path, owner, group, bytes.len()) {
-            return Reply::Refused(rule);
-        }
-        let (inode, created) = self.site.inode_of(path);
-        let Ok(prepared) = self.prepare_put(inode, path, owner, group, bytes.len() as u32) else {
+        let place = match self.site.place_of_put(path, owner, group, bytes.len()) {
+            Ok(place) => place,
+            Err(rule) => return Reply::Refused(rule),
+        };
+        let Ok(prepared) = self.prepare_put(place, path, owner, group, bytes.len() as u32) else {
             return Reply::NoMemory;
         };
         if !self.journal.has_room(self.payload.len()) {
@@ -126,7 +109,10 @@ impl<B: Bank, P: Drop> Engine<B, P> {
             return Reply::BankFault;
         };
         match self.commit(prepared) {
-            Ok(()) => Reply::Stored { inode, created },
+            Ok(()) => Reply::Stored {
+                inode: place.inode,
+                created: place.created,
+            },
             Err(_) => Reply::BankFault,
         }
     }

@@ -12,9 +12,9 @@ ghost use Rattle.engine.specs.StandsFor.{StandsFor, Moves};
 use crate::data::load_all;
 use crate::kept::Engine;
 use crate::payload::write_payload;
-use crate::prepare::Prepared;
 use bank::Bank;
 use records::{Reply, Rule, Step, StepKind};
+use site_state::Prepared;
 use site_text::Bytes;
 
 impl<B: Bank, P: Drop> Engine<B, P> {
@@ -31,15 +31,14 @@ impl<B: Bank, P: Drop> Engine<B, P> {
         ensures patterns { self.new.patterns ≡ self.old.patterns }
         ensures moment { IsTrue B.tells → (B.view self.old.bank).moment ≤ (B.view self.new.bank).moment }
     {
-        let Some(index) = self.site.files.find(path) else {
+        let Some(file) = self.site.file_at(path) else {
             return Reply::Refused(Rule::NoFile);
         };
-        let inode = self.site.files.inode_at(index);
         let step = Step {
             moment: self.clock,
-            kind: StepKind::Accessed { inode },
+            kind: StepKind::Accessed { inode: file.inode },
         };
-        let count = self.site.files.as_slice()[index].length.min(upto as u64);
+        let count = file.length.min(upto as u64);
         let Ok(buffer) = vec![in self.alloc; 0u8; count as usize] else {
             return Reply::NoMemory;
         };
@@ -49,8 +48,7 @@ impl<B: Bank, P: Drop> Engine<B, P> {
         if !self.journal.has_room(self.payload.len()) {
             return Reply::JournalFull;
         }
-        let runs = self.site.files.as_slice()[index].runs.as_slice();
-        let Ok(bytes) = load_all(&mut self.bank, runs, buffer) else {
+        let Ok(bytes) = load_all(&mut self.bank, file.runs.as_slice(), buffer) else {
             return Reply::BankFault;
         };
         let prepared = Prepared {

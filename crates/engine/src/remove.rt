@@ -11,9 +11,9 @@ ghost use Rattle.engine.specs.StandsFor.{StandsFor, Moves};
 
 use crate::kept::Engine;
 use crate::payload::write_payload;
-use crate::prepare::Prepared;
 use bank::Bank;
 use records::{Reply, Rule, Step, StepKind};
+use site_state::Prepared;
 
 impl<B: Bank, P: Drop> Engine<B, P> {
     /// Removes the file of a path. The event's moment is the clock.
@@ -29,10 +29,10 @@ impl<B: Bank, P: Drop> Engine<B, P> {
         ensures patterns { self.new.patterns ≡ self.old.patterns }
         ensures moment { IsTrue B.tells → (B.view self.old.bank).moment ≤ (B.view self.new.bank).moment }
     {
-        let Some(index) = self.site.files.find(path) else {
+        let Some(file) = self.site.file_at(path) else {
             return Reply::Refused(Rule::NoFile);
         };
-        let inode = self.site.files.inode_at(index);
+        let inode = file.inode;
         let step = Step {
             moment: self.clock,
             kind: StepKind::Removed { inode },

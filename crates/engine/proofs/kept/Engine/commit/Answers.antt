@@ -7,7 +7,7 @@ use Rattle.records.specs.declared.step.Step.{Step}
 use Rattle.site_history.specs.Histories.{after}
 use Rattle.site_history.specs.Steps.{fields_after, IsLegal}
 use Rattle.site_history.specs.Images.{written_forms}
-use Rattle.engine.specs.StandsFor.{Keeps}
+use Rattle.site_state.specs.Keeps.{Keeps}
 use Rattle.engine.proofs.Committing.{at_end, count_is, keeps_now, pinned_now, made_moves, owed_moves}
 use Rattle.engine.proofs.kept.Engine.commit.Goals as goal
 

@@ -1,5 +1,5 @@
 use Rattle.std.proofs.Common.{◌≡◌, ◌+◌, ◌<◌, ◌≤◌, ◌++◌, ◌∷◌, [], length, refl, sym, ◌∙◌, ap, subst, arith, rules, Some, Option}
-use Rattle.std.specs.Prelude.{IsTrue, option_map}
+use Rattle.std.specs.Prelude.{option_map}
 use Rattle.bank.proofs.Readings.{nothing_read}
 use Rattle.journal.specs.State.{JournalState}
 use Rattle.configuration.specs.declared.read.ConfigurationError.{ConfigurationError}
@@ -15,7 +15,7 @@ use Rattle.site_history.specs.Answers.{conf_refused}
 use Rattle.site_history.proofs.Turns.{configure-refused, refused-turn, conf-turn, full-turn, made-turn, owes-turn, owing, is_reply}
 use Rattle.engine.proofs.Found.{keeps_it, place_it}
 use Rattle.engine.proofs.Configuring.{prepared_stays, configuring, configure_answered, configure_moves, configure_owes}
-use Rattle.engine.proofs.Turning.{keeps_again, stays_here}
+use Rattle.engine.proofs.Turning.{stays_here}
 use Rattle.engine.proofs.kept.Engine.configure.Goals as goal
 
 pub returns-in-Some-clause-turn : goal.returns-in-Some-clause-turn
@@ -36,7 +36,7 @@ returns-in-Err-Refused-clause-turn g c = λ told tells history stands.
       conf-turn c.args.self.now.journal.size told history (ConfigureEvent c.args.texts.now) c.args.self.now.clock 0 c.in-Err-Refused.refusal
           (configure-refused (after history) c.args.self.now.clock c.args.texts.now (conf_refused c.in-Err-Refused.refusal)
           (c.in_default.ensures.left (after history).fields (keeps_it told g.B.Bank.view c.args.self.now history stands) ∙ ap (λ (o : Option FileRefusal). option_map conf_refused o) wrong)),
-      prepared_stays told g.B.Bank.view c.args.self.now history stands _ u.bank (keeps_again _ _ u.files u.next_inode u.moment u.configuration u.space) u.journal u.steps u.clock u.due (λ t. g.met.B.Bank.sound _ (tells t)),
+      prepared_stays told g.B.Bank.view c.args.self.now history stands _ u.bank u.keeps u.journal u.steps u.clock u.due (λ t. g.met.B.Bank.sound _ (tells t)),
     )
 
 pub returns-in-Err-NoMemory-clause-turn : goal.returns-in-Err-NoMemory-clause-turn
@@ -44,7 +44,7 @@ returns-in-Err-NoMemory-clause-turn g c = λ told tells history stands.
     let u = c.prepare_configuration.ensures.unmoved in (
       at history c.args.self.now.clock,
       refl,
-      prepared_stays told g.B.Bank.view c.args.self.now history stands _ u.bank (keeps_again _ _ u.files u.next_inode u.moment u.configuration u.space) u.journal u.steps u.clock u.due (λ t. g.met.B.Bank.sound _ (tells t)),
+      prepared_stays told g.B.Bank.view c.args.self.now history stands _ u.bank u.keeps u.journal u.steps u.clock u.due (λ t. g.met.B.Bank.sound _ (tells t)),
     )
 
 pub returns-then-not-has_room-clause-turn : goal.returns-then-not-has_room-clause-turn
@@ -60,7 +60,7 @@ returns-then-not-has_room-clause-turn g c = λ told tells history stands.
       at history c.args.self.now.clock,
       full-turn c.args.self.now.journal.size told history (ConfigureEvent c.args.texts.now) c.args.self.now.clock 0 (Done 0) made answered
           c.prepare_configuration.new.self.journal.place c.prepare_configuration.new.self.payload.items place form (omega (arith, full, size)),
-      prepared_stays told g.B.Bank.view c.args.self.now history stands _ u.bank (keeps_again _ _ u.files u.next_inode u.moment u.configuration u.space) u.journal u.steps u.clock u.due (λ t. g.met.B.Bank.sound _ (tells t)),
+      prepared_stays told g.B.Bank.view c.args.self.now history stands _ u.bank u.keeps u.journal u.steps u.clock u.due (λ t. g.met.B.Bank.sound _ (tells t)),
     )
 
 pub returns-in-Ok-commit-clause-turn : goal.returns-in-Ok-commit-clause-turn
@@ -77,7 +77,7 @@ returns-in-Ok-commit-clause-turn g c = λ told tells history stands.
       made-turn c.args.self.now.journal.size told history (ConfigureEvent c.args.texts.now) c.args.self.now.clock 0 (Done 0) made answered
           c.prepare_configuration.new.self.journal.place c.prepare_configuration.new.self.payload.items place form (omega (arith, fits, size))
           (Done 0) refl (is_reply told (Done 0) (Done 0) refl),
-      configure_moves told g.B.Bank.view c.args.self.now history stands c.args.texts.now rule _ u.bank (keeps_again _ _ u.files u.next_inode u.moment u.configuration u.space) u.journal u.steps u.clock u.due (λ t. g.met.B.Bank.sound _ (tells t)) c.in-Ok.prepared.step c.in-Ok.ensures.step c.in-Ok.ensures.written _
+      configure_moves told g.B.Bank.view c.args.self.now history stands c.args.texts.now rule _ u.bank u.keeps u.journal u.steps u.clock u.due (λ t. g.met.B.Bank.sound _ (tells t)) c.in-Ok.prepared.step c.in-Ok.ensures.step c.in-Ok.ensures.written _
           (c.in-Ok-commit.ensures.made told tells history made (sym c.in-Ok.ensures.step)),
     )
 
@@ -94,6 +94,6 @@ returns-in-Err-clause-turn g c = λ told tells history stands.
       owing history c.args.self.now.clock made,
       owes-turn c.args.self.now.journal.size told history (ConfigureEvent c.args.texts.now) c.args.self.now.clock _ (Done 0) made answered
           c.prepare_configuration.new.self.journal.place c.prepare_configuration.new.self.payload.items place form (omega (arith, fits, size)) c.in-Err.ensures.area,
-      configure_owes told g.B.Bank.view c.args.self.now history stands c.args.texts.now rule _ u.bank (keeps_again _ _ u.files u.next_inode u.moment u.configuration u.space) u.journal u.steps u.clock u.due (λ t. g.met.B.Bank.sound _ (tells t)) c.in-Ok.prepared.step c.in-Ok.ensures.step c.in-Ok.ensures.written _
+      configure_owes told g.B.Bank.view c.args.self.now history stands c.args.texts.now rule _ u.bank u.keeps u.journal u.steps u.clock u.due (λ t. g.met.B.Bank.sound _ (tells t)) c.in-Ok.prepared.step c.in-Ok.ensures.step c.in-Ok.ensures.written _
           (c.in-Err.ensures.owed told tells history made (sym c.in-Ok.ensures.step)),
     )

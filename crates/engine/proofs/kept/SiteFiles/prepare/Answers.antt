@@ -1,7 +1,0 @@
-use Rattle.std.proofs.Common.{subst, rules}
-use Rattle.records.specs.declared.step.StepKind.{StepKind}
-use Rattle.engine.specs.Legal.{AreTextsWithin}
-use Rattle.engine.proofs.kept.SiteFiles.prepare.Goals as goal
-
-pub new-requires : goal.new-requires
-new-requires c = subst (λ (kind : StepKind). AreTextsWithin (record { moment = c.args.step.moment; kind = kind })) c.in-Configured.is (c.may_come.ensures.within (search rules))

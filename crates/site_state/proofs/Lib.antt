@@ -1,0 +1,5 @@
+pub mod Places
+pub mod Legality
+pub mod Effects
+pub mod Asking
+pub mod Replaying

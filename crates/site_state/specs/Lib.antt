@@ -1,0 +1,7 @@
+pub mod FileList
+pub mod Inside
+pub mod Fields
+pub mod Keeps
+pub mod Room
+pub mod Legal
+pub mod Replays

@@ -1,0 +1,118 @@
+//! What a step changes of a site.
+
+ghost use Rattle.std.specs.Prelude.{◌≡◌, ◌+◌, ◌<◌, ◌^◌, List as Seq, [], None, length};
+ghost use Rattle.records.specs.Ranges.{IsInode};
+ghost use Rattle.records.specs.Written.{InRange};
+ghost use Rattle.records.specs.declared.file.SiteTexts.{SiteTexts};
+ghost use Rattle.site_history.specs.Site.{Fields, file_at};
+ghost use Rattle.site_history.specs.Steps.{HistoryStep, IsLegal, IsLegalPut, IsThere, put_effect, accessed_effect, removed_effect, configured_effect, fields_after};
+ghost use Rattle.site_history.specs.Histories.{after, IsHistory};
+ghost use Rattle.site_state.specs.Fields.{put_of};
+ghost use Rattle.site_state.specs.Room.{IsSettingOf, IsPrepared};
+ghost use Rattle.site_state.specs.Keeps.{Keeps};
+
+use crate::prepare::{Prepared, Setting};
+use crate::state::SiteState;
+use crate::stored::{PutFields, new_file};
+use records::{Step, StepKind};
+
+impl SiteState {
+    // Keeps what a put stores. A replaced file's runs are free once the new ones are held.
+    fn apply_put(&mut self, moment: u64, put: PutFields)
+        requires range { moment < 2 ^ 40 }
+        requires inode { IsInode put.inode }
+        requires room { file_at put.path self.old.files.list ≡ None → 0 < self.old.files.room }
+        ensures { (steps : Seq HistoryStep) → IsHistory steps → length steps + 1 < 2 ^ 64 → Keeps self.old (after steps).fields → IsLegalPut (after steps).fields (put_of put)
+            → Keeps self.new (put_effect moment (put_of put) (after steps).fields) }
+    {
+        self.moment = moment;
+        self.space.hold(put.runs.as_slice());
+        match self.files.find(put.path.as_slice()) {
+            Some(index) => {
+                let replaced = self.files.store_at(index, moment, put);
+                self.space.give(replaced.as_slice());
+            }
+            None => {
+                // A legal put of a new path comes only where the next inode is below the type's end.
+                self.next_inode = self.next_inode.saturating_add(1);
+                self.files.push(new_file(moment, put));
+            }
+        }
+    }
+
+    // Keeps that a file was read.
+    fn apply_access(&mut self, moment: u64, inode: u32)
+        requires range { moment < 2 ^ 40 }
+        ensures { (steps : Seq HistoryStep) → IsHistory steps → Keeps self.old (after steps).fields → IsThere (after steps).fields inode
+            → Keeps self.new (accessed_effect moment inode (after steps).fields) }
+    {
+        self.moment = moment;
+        if let Some(index) = self.files.find_inode(inode) {
+            self.files.access_at(index, moment);
+        }
+    }
+
+    // Keeps that a file is gone, and frees its runs.
+    fn apply_removal(&mut self, moment: u64, inode: u32)
+        requires range { moment < 2 ^ 40 }
+        ensures { (steps : Seq HistoryStep) → IsHistory steps → Keeps self.old (after steps).fields → IsThere (after steps).fields inode
+            → Keeps self.new (removed_effect moment inode (after steps).fields) }
+    {
+        self.moment = moment;
+        if let Some(index) = self.files.find_inode(inode) {
+            let removed = self.files.remove(index);
+            self.space.give(removed.runs.as_slice());
+        }
+    }
+
+    // Keeps what a configuration brings, where no file is.
+    fn apply_setting(&mut self, moment: u64, setting: Setting)
+        requires range { moment < 2 ^ 40 }
+        ensures { (fields : Fields) (texts : SiteTexts) → Keeps self.old fields → fields.files ≡ [] → IsSettingOf texts setting
+            → Keeps self.new (configured_effect moment texts fields) }
+    {
+        self.moment = moment;
+        self.configuration = setting.configuration;
+        self.space = setting.space;
+    }
+
+    /// Makes a step, which is legal behind the history so far. It takes no memory.
+    pub fn apply(&mut self, prepared: Prepared)
+        requires range { InRange prepared.step }
+        requires prepared { IsPrepared self.old prepared }
+        ensures { (steps : Seq HistoryStep) → IsHistory steps → length steps + 1 < 2 ^ 64 → Keeps self.old (after steps).fields → IsLegal (after steps).fields prepared.step
+            → Keeps self.new (fields_after prepared.step (after steps).fields) }
+    {
+        let Prepared { step, setting } = prepared;
+        let Step { moment, kind } = step;
+        match kind {
+            StepKind::Put {
+                inode,
+                path,
+                owner,
+                group,
+                length,
+                runs,
+            } => {
+                let put = PutFields {
+                    inode,
+                    path,
+                    owner,
+                    group,
+                    length,
+                    runs,
+                };
+                self.apply_put(moment, put);
+            }
+            StepKind::Accessed { inode } => self.apply_access(moment, inode),
+            StepKind::Removed { inode } => self.apply_removal(moment, inode),
+            StepKind::Configured(_) => {
+                // The texts were read when the step was prepared.
+                if let Some(setting) = setting {
+                    self.apply_setting(moment, setting);
+                }
+            }
+            _ => {}
+        }
+    }
+}

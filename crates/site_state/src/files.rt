@@ -1,0 +1,135 @@
+//! The files of a site, without their bytes.
+
+ghost use Rattle.std.specs.Prelude.{◌≡◌, ◌==◌, ◌<◌, ◌≤◌, ◌+◌, ◌^◌, ◌++◌, [], ◌∷◌, ℕ, length, remove, slice_get, slice_set, slice_index_or, IfSome, OnOk, Some};
+ghost use Rattle.std.specs.List.{position};
+ghost use Rattle.std.specs.Option.{option_copied};
+ghost use Rattle.std.specs.Str.{bytes_eq};
+ghost use Rattle.records.specs.Ranges.{IsInode};
+ghost use Rattle.site_history.specs.Site.{file_at};
+ghost use Rattle.site_history.specs.Steps.{stored_file};
+ghost use Rattle.site_state.specs.Fields.{put_of};
+ghost use Rattle.records.specs.declared.file.FileRec.{FileRec as Rec};
+
+use crate::stored::{PutFields, store_over};
+use records::{FileRec, Run};
+use site_text::List;
+use std::alloc::{AllocError, Global};
+use std::marker::Model;
+
+/// The files of a site, without their bytes, by rising inode. Contracts see them as a list, and for how many more there is
+/// room.
+#[derive(Drop)]
+pub struct Files {
+    items: Vec<FileRec>,
+}
+
+impl Model for Files {
+    ghost use Rattle.std.specs.Prelude.{◌-◌, vec_len, vec_capacity};
+    ghost use Rattle.site_state.specs.FileList.{FileList};
+    ghost use Rattle.site_state.specs.Inside.{HaveInodes};
+
+    ghost Value = { FileList };
+
+    ghost view = { λ files. record { list = files.items.items; room = vec_capacity files.items - vec_len files.items } };
+
+    ghost invariant = { HaveInodes };
+}
+
+impl Files {
+    /// No file. It takes no memory.
+    pub fn new(alloc: Global) -> Self
+        ensures { result.list ≡ [] }
+    {
+        Files {
+            items: Vec::new(alloc),
+        }
+    }
+
+    /// How many files there are.
+    pub fn len(&self) -> usize
+        ensures { result ≡ length self.now.list }
+    {
+        self.items.len()
+    }
+
+    /// The files.
+    pub fn as_slice(&self) -> &[FileRec]
+        ensures { result.now ≡ self.now.list }
+    {
+        self.items.as_slice()
+    }
+
+    /// The index of the first file of a path.
+    pub fn find(&self, path: &[u8]) -> Option<usize>
+        ensures { result ≡ position (λ (file : Rec). bytes_eq file.path path.now) self.now.list }
+    {
+        self.items
+            .iter()
+            .position(|file| file.path.as_slice() == path)
+    }
+
+    /// The index of the first file of an inode.
+    pub fn find_inode(&self, inode: u32) -> Option<usize>
+        ensures { result ≡ position (λ (file : Rec). file.inode == inode) self.now.list }
+    {
+        self.items.iter().position(|file| file.inode == inode)
+    }
+
+    /// The file of a path.
+    pub fn get(&self, path: &[u8]) -> Option<&FileRec>
+        ensures file { option_copied result ≡ file_at path.now self.now.list }
+        ensures inode { IfSome result (λ file. IsInode file.now.inode) }
+    {
+        match self.find(path) {
+            Some(index) => Some(&self.items[index]),
+            None => None,
+        }
+    }
+
+    /// Makes room for a further file.
+    pub fn reserve(&mut self) -> Result<(), AllocError>
+        ensures list { self.new.list ≡ self.old.list }
+        ensures room { OnOk result (0 < self.new.room) }
+    {
+        self.items.reserve(1)
+    }
+
+    /// Adds a file, for which there is room, behind the others.
+    pub fn push(&mut self, file: FileRec)
+        requires room { 0 < self.old.room }
+        requires inode { IsInode file.inode }
+        ensures { self.new.list ≡ self.old.list ++ file ∷ [] }
+    {
+        if self.items.push(file).is_err() {
+            unreachable!();
+        }
+    }
+
+    /// Puts what a put stores over the file at an index, whose runs it gives.
+    pub fn store_at(&mut self, index: usize, moment: u64, put: PutFields) -> List<Run>
+        requires { index < length self.old.list }
+        ensures list { (file : Rec) → slice_get self.old.list index ≡ Some file → file.generation + 1 < 2 ^ 64
+            → self.new.list ≡ slice_set self.old.list index (stored_file (Some file) moment (put_of put)) }
+        ensures runs { (file : Rec) → slice_get self.old.list index ≡ Some file → result ≡ file.runs }
+    {
+        store_over(&mut self.items[index], moment, put)
+    }
+
+    /// Sets the moment of access of the file at an index.
+    pub fn access_at(&mut self, index: usize, moment: u64)
+        requires { index < length self.old.list }
+        ensures { (file : Rec) → slice_get self.old.list index ≡ Some file
+            → self.new.list ≡ slice_set self.old.list index (record file { accessed = moment }) }
+    {
+        self.items[index].accessed = moment;
+    }
+
+    /// Takes out the file at an index.
+    pub fn remove(&mut self, index: usize) -> FileRec
+        requires { index < length self.old.list }
+        ensures list { self.new.list ≡ remove self.old.list index }
+        ensures old { slice_get self.old.list index ≡ Some result }
+    {
+        self.items.remove(index)
+    }
+}

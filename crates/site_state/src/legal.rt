@@ -1,0 +1,98 @@
+//! Which steps may come.
+
+ghost use Rattle.std.specs.Prelude.{◌≡◌, ◌<◌, ◌≤◌, ◌↔◌, ℕ, IsTrue, MatchOption, length};
+ghost use Rattle.records.specs.Paths.{is_legal_path, is_legal_name};
+ghost use Rattle.records.specs.Written.{InRange};
+ghost use Rattle.cache_space.specs.Blocks.{blocks_for};
+ghost use Rattle.cache_space.specs.Space.{AreFree, AreMaximal, blocks_in};
+ghost use Rattle.site_history.specs.Site.{Fields, file_at, held_runs, cache_blocks};
+ghost use Rattle.site_history.specs.Steps.{inode_for, IsThere};
+ghost use Rattle.site_state.specs.Legal.{MayCome, AreTextsWithin};
+ghost use Rattle.site_state.specs.Keeps.{Keeps};
+
+use crate::state::SiteState;
+use cache_space::{are_maximal, blocks_needed, have_blocks};
+use configuration::are_within;
+use records::{Run, Step, StepKind, is_legal_name, is_legal_path};
+
+/// The most bytes of a file.
+pub const FILE_MAX: u64 = 16_777_216;
+
+/// How many files there may be.
+pub const FILES_MAX: usize = 65_536;
+
+/// The greatest inode.
+pub const INODE_MAX: u32 = 4_294_967_294;
+
+// Whether a file may have this path, and it these names.
+fn are_legal(path: &[u8], owner: &[u8], group: &[u8]) -> bool
+    ensures { IsTrue result ↔ (IsTrue (is_legal_path path.now) × IsTrue (is_legal_name owner.now) × IsTrue (is_legal_name group.now)) }
+{
+    is_legal_path(path) && is_legal_name(owner) && is_legal_name(group)
+}
+
+impl SiteState {
+    // Whether a further file fits.
+    fn has_place(&self) -> bool
+        ensures { (fields : Fields) → Keeps self.now fields → (IsTrue result ↔ ((length fields.files < 65536) × (fields.next_inode ≤ 4294967294))) }
+    {
+        self.files.len() < FILES_MAX && self.next_inode <= INODE_MAX
+    }
+
+    // Whether a put of this path has this inode: that of the path's file, or the next one, where a further file fits.
+    fn takes_inode(&self, inode: u32, path: &[u8]) -> bool
+        ensures { (fields : Fields) → Keeps self.now fields → (IsTrue result
+            ↔ ((inode ≡ inode_for fields path.now) × MatchOption (file_at path.now fields.files) ((length fields.files < 65536) × (fields.next_inode ≤ 4294967294)) (λ _. Unit {0}))) }
+    {
+        match self.files.find(path) {
+            Some(index) => inode == self.files.as_slice()[index].inode,
+            None => inode == self.next_inode && self.has_place(),
+        }
+    }
+
+    // Whether these runs are maximal runs of free blocks, as many as so many bytes need.
+    fn takes_runs(&self, size: u64, runs: &[Run]) -> bool
+        ensures { (fields : Fields) → Keeps self.now fields → (IsTrue result
+            ↔ ((size ≤ 16777216) × AreMaximal runs.now × AreFree (cache_blocks fields) (held_runs fields.files) runs.now × (blocks_in runs.now ≡ blocks_for size))) }
+    {
+        size <= FILE_MAX
+            && are_maximal(runs)
+            && self.space.all_free(runs)
+            && have_blocks(runs, blocks_needed(size as u32))
+    }
+
+    // Whether a file of this inode is there.
+    fn is_there(&self, inode: u32) -> bool
+        ensures { (fields : Fields) → Keeps self.now fields → (IsTrue result ↔ IsThere fields inode) }
+    {
+        self.files.find_inode(inode).is_some()
+    }
+
+    /// Whether a step may come, before the texts of a configuration are read. A step of a kind that is not served never may.
+    pub fn may_come(&self, step: &Step) -> bool
+        ensures test { (fields : Fields) → Keeps self.now fields → InRange step.now → (IsTrue result ↔ MayCome fields step.now) }
+        ensures within { IsTrue result → AreTextsWithin step.now }
+    {
+        if step.moment < self.moment {
+            return false;
+        }
+        match &step.kind {
+            StepKind::Configured(texts) => self.files.len() == 0 && are_within(texts),
+            StepKind::Put {
+                inode,
+                path,
+                owner,
+                group,
+                length,
+                runs,
+            } => {
+                are_legal(path.as_slice(), owner.as_slice(), group.as_slice())
+                    && self.takes_inode(*inode, path.as_slice())
+                    && self.takes_runs(*length, runs.as_slice())
+            }
+            StepKind::Accessed { inode } => self.is_there(*inode),
+            StepKind::Removed { inode } => self.is_there(*inode),
+            _ => false,
+        }
+    }
+}

@@ -1,0 +1,21 @@
+//! What a site keeps in memory: its files without their bytes, what its command files say, and its free blocks. Which steps
+//! may come, and what they change.
+#![tactic(auto)]
+
+mod apply;
+mod files;
+mod legal;
+mod look;
+mod prepare;
+mod replays;
+mod rule;
+mod state;
+mod stored;
+#[cfg(test)]
+mod tests;
+
+pub use files::Files;
+pub use prepare::{Prepared, Setting};
+pub use replays::{ReplayRefusal, replay};
+pub use rule::Place;
+pub use state::SiteState;

@@ -1,0 +1,81 @@
+//! What a put leaves of a file.
+
+ghost use Rattle.std.specs.Prelude.{◌≡◌, ◌+◌, ◌<◌, ◌^◌, None, Some};
+ghost use Rattle.site_history.specs.Steps.{stored_file};
+ghost use Rattle.site_state.specs.Fields.{put_of};
+
+use records::{CopySlot, CopySlots, FileRec, ReleaseKind, Run, StageKind};
+use site_text::{Bytes, List};
+
+/// The fields of a put's step.
+#[derive(Drop)]
+pub struct PutFields {
+    pub inode: u32,
+    pub path: Bytes,
+    pub owner: Bytes,
+    pub group: Bytes,
+    /// In bytes.
+    pub length: u64,
+    pub runs: List<Run>,
+}
+
+/// A new file, whole in the cache.
+pub fn new_file(moment: u64, put: PutFields) -> FileRec
+    ensures { result ≡ stored_file None moment (put_of put) }
+{
+    let PutFields {
+        inode,
+        path,
+        owner,
+        group,
+        length,
+        runs,
+    } = put;
+    FileRec {
+        inode,
+        path,
+        owner,
+        group,
+        modified: moment,
+        accessed: moment,
+        resided: moment,
+        generation: 1,
+        length,
+        cached: length,
+        release: ReleaseKind::Default,
+        partial: 0,
+        stage: StageKind::Default,
+        runs,
+        copies: CopySlots {
+            first: CopySlot::Empty,
+            second: CopySlot::Empty,
+            third: CopySlot::Empty,
+            fourth: CopySlot::Empty,
+        },
+    }
+}
+
+/// Puts what a put stores over a file, whose runs it gives.
+pub fn store_over(file: &mut FileRec, moment: u64, put: PutFields) -> List<Run>
+    ensures file { file.old.generation + 1 < 2 ^ 64 → file.new ≡ stored_file (Some file.old) moment (put_of put) }
+    ensures inode { file.new.inode ≡ file.old.inode }
+    ensures runs { result ≡ file.old.runs }
+{
+    let PutFields {
+        owner,
+        group,
+        length,
+        runs,
+        ..
+    } = put;
+    file.owner = owner;
+    file.group = group;
+    file.modified = moment;
+    file.accessed = moment;
+    file.resided = moment;
+    // A generation is at most the number of steps, which is counted in eight bytes.
+    file.generation = file.generation.saturating_add(1);
+    file.length = length;
+    file.cached = length;
+    std::mem::replace(&mut file.runs, runs)
+}
