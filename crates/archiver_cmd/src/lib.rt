@@ -6,8 +6,6 @@ mod levels;
 mod params;
 mod plain;
 mod read;
-#[cfg(test)]
-mod tests;
 
 pub use archiver_lines::{
     Assignment, CopyConf, CopyName, Given, Join, Local, Owner, ParamsLine, Release, ReservePart,

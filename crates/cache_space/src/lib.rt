@@ -12,6 +12,3 @@ pub use plain::plain_lowest;
 pub use refusal::SpaceRefusal;
 pub use runs::{are_maximal, blocks_needed, end_of, have_blocks};
 pub use space::CacheSpace;
-
-#[cfg(test)]
-mod tests;

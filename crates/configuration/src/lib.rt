@@ -4,8 +4,6 @@
 mod folder;
 mod meaning;
 mod read;
-#[cfg(test)]
-mod tests;
 
 pub use folder::read_texts;
 pub use meaning::texts_say_one_thing;

@@ -14,8 +14,6 @@ mod site_lines;
 mod stager;
 mod stager_conf;
 mod stager_lines;
-#[cfg(test)]
-mod tests;
 
 pub use plain::{plain_recycler, plain_releaser, plain_site, plain_stager};
 pub use recycler::{each_recycler_says_one_thing, read_recycler};

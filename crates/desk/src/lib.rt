@@ -14,6 +14,3 @@ mod words;
 pub use laws::each_line_says_one_thing;
 pub use read::{is_skipped, read_line};
 pub use reply::write_reply;
-
-#[cfg(test)]
-mod tests;

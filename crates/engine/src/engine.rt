@@ -206,7 +206,8 @@ impl<B: Bank, P: Drop> Engine<B, P> {
 
     /// What the command files of the site say. Where a reopening is due they may be others than those of the history.
     pub fn configuration(&self) -> &Configuration
-        ensures { (told : Bool) (w : World) → StandsFor told B.view self.now w → self.now.due ≡ false → Says (after w.history).fields.texts result.now }
+        ensures said { (told : Bool) (w : World) → StandsFor told B.view self.now w → self.now.due ≡ false → Says (after w.history).fields.texts result.now }
+        ensures kept { result.now ≡ self.now.site.configuration }
     {
         self.site.configuration()
     }

@@ -11,8 +11,6 @@ mod put;
 mod read;
 mod remove;
 mod reopen;
-#[cfg(test)]
-mod tests;
 
 pub use configuration::{Configuration, read_texts};
 pub use engine::{Shut, ShutCause};

@@ -10,6 +10,3 @@ mod reader;
 pub use line::{LineRead, next_line};
 pub use plain::{RawLine, plain_lines};
 pub use reader::{Reader, Stop};
-
-#[cfg(test)]
-mod tests;

@@ -10,8 +10,6 @@ mod gate;
 mod journal;
 mod reading;
 mod refusal;
-#[cfg(test)]
-mod tests;
 mod writing;
 
 pub use journal::{AREA_MAX, Journal};

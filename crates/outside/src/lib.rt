@@ -17,6 +17,3 @@ pub use memory::{
 };
 pub use patterns::{PatternFault, Patterns};
 pub use stream::{Failed, Sink, Source, write_all};
-
-#[cfg(test)]
-mod tests;

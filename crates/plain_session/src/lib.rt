@@ -15,12 +15,3 @@ mod stage;
 mod world;
 
 pub use lines::plain_output;
-
-#[cfg(test)]
-mod configure_tests;
-#[cfg(test)]
-mod crash_tests;
-#[cfg(test)]
-mod test_texts;
-#[cfg(test)]
-mod tests;

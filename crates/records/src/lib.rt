@@ -29,6 +29,3 @@ pub use reply::{
 };
 pub use step::{Member, Step, StepKind, VolumeEnd};
 pub use unique::{one_form, ranges, written_length};
-
-#[cfg(test)]
-mod tests;

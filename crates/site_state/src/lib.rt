@@ -11,8 +11,6 @@ mod replays;
 mod rule;
 mod state;
 mod stored;
-#[cfg(test)]
-mod tests;
 
 pub use files::Files;
 pub use prepare::{Prepared, Setting};

@@ -20,7 +20,8 @@ use std::alloc::AllocError;
 impl SiteState {
     /// What the command files say.
     pub fn configuration(&self) -> &Configuration
-        ensures { (fields : Fields) → Keeps self.now fields → Says fields.texts result.now }
+        ensures said { (fields : Fields) → Keeps self.now fields → Says fields.texts result.now }
+        ensures kept { result.now ≡ self.now.configuration }
     {
         &self.configuration
     }
@@ -33,7 +34,8 @@ impl SiteState {
         self.files.get(path)
     }
 
-    /// The lowest free blocks for so many bytes, as maximal runs.
+    /// The lowest free blocks for so many bytes, as maximal runs. Where fewer blocks are free, which `place_of_put` rules out,
+    /// it fails as it does for want of memory.
     pub fn free_runs(&self, size: u32) -> Result<List<Run>, AllocError>
         ensures lowest { (fields : Fields) → Keeps self.now fields → blocks_for size ≤ length (free_blocks (cache_blocks fields) (held_runs fields.files))
             → IfOk result (λ runs. runs ≡ lowest_runs (cache_blocks fields) (held_runs fields.files) (blocks_for size)) }

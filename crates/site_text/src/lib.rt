@@ -13,8 +13,6 @@ mod numbers;
 mod options;
 mod refusal;
 mod sizes;
-#[cfg(test)]
-mod tests;
 mod text_lines;
 mod value_lines;
 mod values;

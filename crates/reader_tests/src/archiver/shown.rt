@@ -1,6 +1,6 @@
 //! A configuration as a text: all its fields, one behind the other.
 
-use crate::{
+use archiver_cmd::{
     ArchiverConf, Assignment, CopyConf, CopyName, ParamsLine, SetConf, VsnsGroup, plain_archiver,
     read_archiver,
 };

@@ -1,7 +1,7 @@
 //! recycler.cmd.
 
 use super::{Refused, SITE, Said, push_number, refused};
-use crate::{RecyclerConf, plain_recycler, read_recycler, read_site};
+use daemon_cmds::{RecyclerConf, plain_recycler, read_recycler, read_site};
 use site_text::{Bytes, ConfFault};
 use std::alloc::{AllocError, Global};
 use std::test::Fail;

@@ -1,6 +1,6 @@
 //! Lines and answers written out by hand.
 
-use crate::{is_skipped, read_line, write_reply};
+use desk::{is_skipped, read_line, write_reply};
 use records::{
     Asked, CommandFile, Daemon, Event, FileRow, FileState, IdleCause, LineRefusal, Reply, Rule,
     SetRow, SummaryRow, VolumeRow, Vsn,

@@ -1,6 +1,8 @@
 //! The form of each kind, written out by hand.
 
-use super::*;
+use records::{
+    Flag, ReleaseKind, Run, StageKind, StepKind, StepRefusal, VolumeEnd, decode_step, encode_step,
+};
 use std::alloc::Global;
 use std::test::Fail;
 

@@ -1,7 +1,7 @@
 //! How many libraries and volumes a site.conf may have.
 
 use super::{push_number, refused};
-use crate::{SiteConf, plain_site, read_site};
+use daemon_cmds::{SiteConf, plain_site, read_site};
 use site_text::{Bytes, ConfError, ConfFault};
 use std::alloc::{AllocError, Global};
 use std::test::Fail;

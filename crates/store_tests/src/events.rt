@@ -2,8 +2,8 @@
 
 ghost use Rattle.std.specs.Prelude.{◌≤◌};
 
-use crate::Engine;
 use bank::{BankCall, FailAt, MemoryBank};
+use engine::Engine;
 use records::{Event, Reply, SiteTexts};
 use site_text::{Bytes, List};
 use std::alloc::{AllocError, Global};

@@ -1,6 +1,8 @@
 //! What no clause says: that the calls succeed, and texts made by hand from the forms of the five files.
 
-use super::*;
+use configuration::{
+    Configuration, ConfigurationError, FileRefusal, are_within, read_configuration, read_texts,
+};
 use outside::{FolderFault, MemoryFolder, NamedText};
 use records::{CommandFile, SiteTexts};
 use site_text::{Bytes, ConfFault, List};

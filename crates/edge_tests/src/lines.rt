@@ -1,6 +1,6 @@
 //! The lines of hand-made texts, and the reader against the slow program.
 
-use super::*;
+use input::{LineRead, RawLine, Reader, next_line, plain_lines};
 use outside::{MemorySource, Source};
 use site_text::{Bytes, List};
 use std::alloc::{AllocError, Global};

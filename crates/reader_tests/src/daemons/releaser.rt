@@ -1,7 +1,7 @@
 //! releaser.cmd.
 
 use super::{Refused, SITE, Said, push_number, refused};
-use crate::{AgeWeights, ReleaserConf, plain_releaser, read_releaser, read_site};
+use daemon_cmds::{AgeWeights, ReleaserConf, plain_releaser, read_releaser, read_site};
 use site_text::{Bytes, ConfFault};
 use std::alloc::{AllocError, Global};
 use std::test::Fail;

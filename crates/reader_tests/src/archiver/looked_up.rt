@@ -1,7 +1,9 @@
 //! What a configuration answers for a copy of a set.
 
 use super::shown::both_shown;
-use crate::{ArchiverConf, Owner, Params, Reserve, Sort, SortKey, plain_archiver, read_archiver};
+use archiver_cmd::{
+    ArchiverConf, Owner, Params, Reserve, Sort, SortKey, plain_archiver, read_archiver,
+};
 use site_text::{Bytes, List};
 use std::alloc::{AllocError, Global};
 use std::test::Fail;

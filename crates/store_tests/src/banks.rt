@@ -1,4 +1,4 @@
-use crate::{Bank, BankCall, FailAt, FileBank, FileBankRefusal, MemoryBank};
+use bank::{Bank, BankCall, FailAt, FileBank, FileBankRefusal, MemoryBank};
 use site_text::List;
 use std::fs;
 use std::test::Fail;

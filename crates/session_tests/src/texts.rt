@@ -1,10 +1,20 @@
 //! Command files for tests: their texts, and a folder of them.
 
-use crate::command_files::no_texts;
 use outside::{MemoryFolder, NamedText};
 use records::{CommandFile, SiteTexts};
 use site_text::{Bytes, List};
 use std::alloc::{AllocError, Global};
+
+/// Five empty texts.
+pub fn no_texts(alloc: Global) -> SiteTexts {
+    SiteTexts {
+        site: Bytes::new(alloc),
+        archiver: Bytes::new(alloc),
+        stager: Bytes::new(alloc),
+        releaser: Bytes::new(alloc),
+        recycler: Bytes::new(alloc),
+    }
+}
 
 /// The texts of these files. The others are empty.
 pub fn texts_of(alloc: Global, files: &[(CommandFile, &[u8])]) -> Result<SiteTexts, AllocError> {

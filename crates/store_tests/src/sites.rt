@@ -1,6 +1,6 @@
 //! A test of the site of no texts; steps are made on sites in the tests of events.
 
-use crate::replay;
+use site_state::replay;
 use std::test::Fail;
 
 #[test]

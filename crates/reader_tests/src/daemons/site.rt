@@ -1,7 +1,7 @@
 //! site.conf.
 
 use super::{Refused, Said, push_number, refused};
-use crate::{SiteConf, plain_site, read_site};
+use daemon_cmds::{SiteConf, plain_site, read_site};
 use site_text::{Bytes, ConfFault};
 use std::alloc::{AllocError, Global};
 use std::test::Fail;

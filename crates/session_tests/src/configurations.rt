@@ -1,8 +1,7 @@
 //! A run that is asked to configure writes what the plain program writes.
 
-use crate::command_files::no_texts;
-use crate::test_texts::texts_of;
-use crate::tests::expect_with;
+use crate::runs::expect_with;
+use crate::texts::{no_texts, texts_of};
 use records::CommandFile;
 use std::test::Fail;
 

@@ -1,4 +1,4 @@
-use crate::{CacheSpace, are_maximal, blocks_needed, have_blocks, plain_lowest};
+use cache_space::{CacheSpace, are_maximal, blocks_needed, have_blocks, plain_lowest};
 use records::Run;
 use std::alloc::{AllocError, Global};
 use std::test::Fail;

@@ -1,7 +1,7 @@
 //! Tests of the journal over a store in memory. The values come from the format.
 
-use crate::{AppendRefusal, Journal, JournalRefusal};
 use bank::{Bank, BankCall, FailAt, MemoryBank};
+use journal::{AppendRefusal, Journal, JournalRefusal};
 use site_text::{Bytes, List};
 use std::alloc::{AllocError, Global};
 use std::process::Abort;

@@ -1,10 +1,9 @@
 //! What is left of a site after a crash at each moment, and after each call of the store failed once, as the plain program has it.
 
-use crate::command_files::no_texts;
-use crate::lines::plain_output;
-use crate::test_texts::{folder_of, texts_of};
+use crate::texts::{folder_of, no_texts, texts_of};
 use bank::{Bank, BankCall, FailAt, MemoryBank};
 use outside::{LiteralPatterns, MemoryClock, MemorySink, MemorySource};
+use plain_session::plain_output;
 use records::{CommandFile, SiteTexts};
 use session::{Mark, run_lines};
 use site_text::{Bytes, List};

@@ -1,7 +1,7 @@
 //! stager.cmd.
 
 use super::{Refused, SITE, Said, push_number, refused};
-use crate::{StagerConf, plain_stager, read_site, read_stager};
+use daemon_cmds::{StagerConf, plain_stager, read_site, read_stager};
 use site_text::{Bytes, ConfFault};
 use std::alloc::{AllocError, Global};
 use std::test::Fail;

@@ -1,7 +1,7 @@
 //! What no clause says: that the calls succeed, and texts made by hand from the format. Each text is read by the reader and by the
 //! plain slow one.
 
-use crate::{ArchiverConf, plain_archiver, read_archiver};
+use archiver_cmd::{ArchiverConf, plain_archiver, read_archiver};
 use site_text::{ConfError, ConfFault, ConfRefusal};
 use std::alloc::Global;
 use std::test::Fail;

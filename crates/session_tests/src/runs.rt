@@ -1,10 +1,9 @@
 //! A run over memory writes what the plain program writes.
 
-use crate::command_files::no_texts;
-use crate::lines::plain_output;
-use crate::test_texts::folder_of;
+use crate::texts::{folder_of, no_texts};
 use bank::MemoryBank;
 use outside::{LiteralPatterns, MemoryClock, MemorySink, MemorySource};
+use plain_session::plain_output;
 use records::SiteTexts;
 use session::run_lines;
 use site_text::{Bytes, List};
