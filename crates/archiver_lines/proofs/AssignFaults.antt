@@ -5,7 +5,7 @@ use Rattle.std.specs.Str.{bytes_eq}
 use Rattle.std.proofs.lemmas.Bool.{leb-true}
 use Rattle.site_text.specs.declared.fault.ConfFault.{ConfFault}
 use Rattle.site_text.specs.declared.fault.ConfFault.TheVariants.{MissingField, BadValue, TooMany, Conflict}
-use Rattle.site_text.specs.Fields.{Field, Read, ◌>>=◌, next_field, unless}
+use Rattle.site_text.specs.Fields.{Field, Read, ◌>>=◌, next_field, refuse_if}
 use Rattle.site_text.specs.Options.{options_of}
 use Rattle.site_text.proofs.OptionLaws.{options_wrong, options_refused}
 use Rattle.archiver_lines.specs.declared.criteria.Criterion.{Criterion}
@@ -23,7 +23,7 @@ use Rattle.archiver_lines.proofs.Faults.{bind_err, Judges, fails, passes, failed
 -- ---- the set
 
 abbrev set_tests : Bool → Bool → Bool → Read (Unit {0})
-set_tests form full all = unless (not form) BadValue >>= λ u. unless full TooMany >>= λ u. unless all Conflict
+set_tests form full all = refuse_if (not form) BadValue >>= λ u. refuse_if full TooMany >>= λ u. refuse_if all Conflict
 
 abbrev set_read : List Reading → Field → Read (Unit {0})
 set_read before set = set_tests (is_set_name set) (nat_le 64 (length (assignments_of before)) || nat_le 64 (set_place (sets_of before) set)) (bytes_eq set (codes "allsets"))
@@ -66,7 +66,7 @@ set_judged before set = go (is_set_name set) (nat_le 64 (length (assignments_of 
     go true false false true form lines sets own = record { there = is_same set (codes "allsets") own; lowest = then_own form lines sets }
     go true false false false form lines sets own = none form lines sets own
 
-three_tests : (a b c : Bool) (rest : Read Reading) → (unless (not a) BadValue >>= λ u. unless b TooMany >>= λ u. unless c Conflict >>= λ u. rest) ≡ (set_tests a b c >>= λ u. rest)
+three_tests : (a b c : Bool) (rest : Read Reading) → (refuse_if (not a) BadValue >>= λ u. refuse_if b TooMany >>= λ u. refuse_if c Conflict >>= λ u. rest) ≡ (set_tests a b c >>= λ u. rest)
 three_tests false b c rest = refl
 three_tests true true c rest = refl
 three_tests true false true rest = refl
@@ -88,7 +88,7 @@ behind_wrong site before number set (path ∷ fields) fault is = go (is_set_path
     criteria legal (inl e) = inr (legal, options_wrong criteria_table [] fields fault e)
     criteria legal (inr (given, e, absent)) = absurd cc
 
-    go : (b : Bool) → is_set_path path ≡ b → (unless (not b) BadValue >>= λ u. options_of criteria_table [] fields >>= λ given. Ok (told site before number set path given)) ≡ Err fault → BehindSet (path ∷ fields) fault
+    go : (b : Bool) → is_set_path path ≡ b → (refuse_if (not b) BadValue >>= λ u. options_of criteria_table [] fields >>= λ given. Ok (told site before number set path given)) ≡ Err fault → BehindSet (path ∷ fields) fault
     go true legal is = criteria legal (bind_err (options_of criteria_table [] fields) (λ given. Ok (told site before number set path given)) fault is)
     go false illegal is = inl (illegal, (let e : BadValue ≡ fault = cc in sym e))
 

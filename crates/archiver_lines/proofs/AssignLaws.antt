@@ -3,7 +3,7 @@ use Rattle.std.proofs.Common.{◌≡◌, ℕ, Bool, List, [], ◌∷◌, length,
 use Rattle.std.specs.Prelude.{◌||◌, not, nat_le}
 use Rattle.std.specs.Str.{bytes_eq}
 use Rattle.site_text.specs.declared.fault.ConfFault.TheVariants.{BadValue, TooMany, Conflict}
-use Rattle.site_text.specs.Fields.{Field, Read, ◌>>=◌, next_field, unless}
+use Rattle.site_text.specs.Fields.{Field, Read, ◌>>=◌, next_field, refuse_if}
 use Rattle.site_text.specs.Options.{options_of}
 use Rattle.site_text.proofs.OptionLaws.{options_said, options_read}
 use Rattle.archiver_lines.specs.declared.criteria.Criterion.{Criterion}
@@ -15,7 +15,7 @@ use Rattle.archiver_lines.specs.Criteria.{criteria_table}
 use Rattle.archiver_lines.specs.Assignments.{assigned, assign_line}
 use Rattle.archiver_lines.specs.Told.{part_of, assignments_of, sets_of}
 use Rattle.archiver_lines.specs.Says.{AssignSays}
-use Rattle.archiver_lines.proofs.Tests.{bind_ok, unless_said, not_false, both_false, other, is_other, above, is_above}
+use Rattle.archiver_lines.proofs.Tests.{bind_ok, not_refused, not_false, both_false, other, is_other, above, is_above}
 
 abbrev pub line_read : Field → List Reading → ℕ → Field → List Field → Read Reading
 line_read site before number set fields = assign_line (part_of site before) (length (assignments_of before)) (sets_of before) number set fields
@@ -50,37 +50,37 @@ abbrev pub given_read : Field → List Reading → ℕ → Field → Field × Li
 given_read site before number set path = options_of criteria_table [] path.1 >>= λ given. Ok (told site before number set path.0 given)
 
 abbrev pub path_read : Field → List Reading → ℕ → Field → List Field → Read Reading
-path_read site before number set fields = next_field fields >>= λ path. unless (not (is_set_path path.0)) BadValue >>= λ u. given_read site before number set path
+path_read site before number set fields = next_field fields >>= λ path. refuse_if (not (is_set_path path.0)) BadValue >>= λ u. given_read site before number set path
 
 abbrev own_read : Field → List Reading → ℕ → Field → List Field → Read Reading
-own_read site before number set fields = unless (bytes_eq set (codes "allsets")) Conflict >>= λ u. path_read site before number set fields
+own_read site before number set fields = refuse_if (bytes_eq set (codes "allsets")) Conflict >>= λ u. path_read site before number set fields
 
 abbrev is_full : List Reading → Field → Bool
 is_full before set = nat_le 64 (length (assignments_of before)) || nat_le 64 (set_place (sets_of before) set)
 
 abbrev room_read : Field → List Reading → ℕ → Field → List Field → Read Reading
-room_read site before number set fields = unless (is_full before set) TooMany >>= λ u. own_read site before number set fields
+room_read site before number set fields = refuse_if (is_full before set) TooMany >>= λ u. own_read site before number set fields
 
 pub assign_said : (site : Field) (before : List Reading) (number : ℕ) (set : Field) (fields : List Field) (said : Reading) → line_read site before number set fields ≡ Ok said → AssignSays site before number set fields said
 unfolding assign_line
 assign_said site before number set fields said is =
-    let f = bind_ok (unless (not (is_set_name set)) BadValue) (λ u. room_read site before number set fields) said is in
-    let m = bind_ok (unless (is_full before set) TooMany) (λ u. own_read site before number set fields) said f.2 in
-    let o = bind_ok (unless (bytes_eq set (codes "allsets")) Conflict) (λ u. path_read site before number set fields) said m.2 in
-    let p = bind_ok (next_field fields) (λ path. unless (not (is_set_path path.0)) BadValue >>= λ u. given_read site before number set path) said o.2 in
-    let l = bind_ok (unless (not (is_set_path p.0.0)) BadValue) (λ u. given_read site before number set p.0) said p.2 in
+    let f = bind_ok (refuse_if (not (is_set_name set)) BadValue) (λ u. room_read site before number set fields) said is in
+    let m = bind_ok (refuse_if (is_full before set) TooMany) (λ u. own_read site before number set fields) said f.2 in
+    let o = bind_ok (refuse_if (bytes_eq set (codes "allsets")) Conflict) (λ u. path_read site before number set fields) said m.2 in
+    let p = bind_ok (next_field fields) (λ path. refuse_if (not (is_set_path path.0)) BadValue >>= λ u. given_read site before number set path) said o.2 in
+    let l = bind_ok (refuse_if (not (is_set_path p.0.0)) BadValue) (λ u. given_read site before number set p.0) said p.2 in
     let g = bind_ok (options_of criteria_table [] p.0.1) (λ given. Ok (told site before number set p.0.0 given)) said l.2 in
     let e : told site before number set p.0.0 g.0 ≡ said = (let h = g.2 in cc) in
-    let few = both_false (nat_le 64 (length (assignments_of before))) (nat_le 64 (set_place (sets_of before) set)) (unless_said _ TooMany m.0 m.1) in
+    let few = both_false (nat_le 64 (length (assignments_of before))) (nat_le 64 (set_place (sets_of before) set)) (not_refused _ TooMany m.0 m.1) in
     record {
-      form = not_false _ (unless_said _ BadValue f.0 f.1);
-      own = is_other set (codes "allsets") (unless_said _ Conflict o.0 o.1);
+      form = not_false _ (not_refused _ BadValue f.0 f.1);
+      own = is_other set (codes "allsets") (not_refused _ Conflict o.0 o.1);
       few_lines = is_above 64 _ few.0;
       few_sets = is_above 64 _ few.1;
       path = p.0.0;
       rest = p.0.1;
       cut = next_said fields p.0 p.1;
-      legal = not_false _ (unless_said _ BadValue l.0 l.1);
+      legal = not_false _ (not_refused _ BadValue l.0 l.1);
       given = g.0;
       criteria = options_said criteria_table [] p.0.1 g.0 g.1;
       is = sym e;

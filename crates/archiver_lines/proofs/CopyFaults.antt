@@ -10,7 +10,7 @@ use Rattle.site_text.specs.Numbers.{number_in}
 use Rattle.site_text.specs.Ages.{age_of}
 use Rattle.site_text.specs.Values.{bad_value, age_value}
 use Rattle.site_text.specs.Words.{is_option}
-use Rattle.site_text.specs.Fields.{Field, Read, ◌>>=◌, no_field, wanted, unless}
+use Rattle.site_text.specs.Fields.{Field, Read, ◌>>=◌, no_field, wanted, refuse_if}
 use Rattle.archiver_lines.specs.declared.reading.CopyConf.{CopyConf}
 use Rattle.archiver_lines.specs.declared.reading.SetCopy.{SetCopy}
 use Rattle.archiver_lines.specs.Names.{set_place, is_too_many}
@@ -25,7 +25,7 @@ use Rattle.archiver_lines.proofs.Faults.{bind_err, Judges, fails, passes, failed
 
 abbrev number_tests : ℕ → Field → Bool → Bool → Bool → Bool → Read (ℕ × Field)
 number_tests copy set twice many barred within =
-    unless twice CopyTwice >>= λ u. unless many TooMany >>= λ u. unless barred Conflict >>= λ u. unless (not within) OutOfRange >>= λ u. Ok (copy, set)
+    refuse_if twice CopyTwice >>= λ u. refuse_if many TooMany >>= λ u. refuse_if barred Conflict >>= λ u. refuse_if (not within) OutOfRange >>= λ u. Ok (copy, set)
 
 abbrev tests_of : List SetCopy → List Field → ℕ → Field → Read (ℕ × Field)
 tests_of copies sets copy set = number_tests copy set (has_copy copies set copy) (is_too_many sets set) (bytes_eq set (codes "no_archive")) (nat_le 1 copy && nat_le copy 4)
@@ -145,7 +145,7 @@ module _ (target : Option Field) (copies : List SetCopy) (sets : List Field) (fi
 
 abbrev after_tests : ℕ → Field → List Field → Bool → Bool → Bool → Bool → Read SetCopy
 after_tests copy set fields twice many barred within =
-    unless twice CopyTwice >>= λ u. unless many TooMany >>= λ u. unless barred Conflict >>= λ u. unless (not within) OutOfRange >>= λ u. ending copy set fields
+    refuse_if twice CopyTwice >>= λ u. refuse_if many TooMany >>= λ u. refuse_if barred Conflict >>= λ u. refuse_if (not within) OutOfRange >>= λ u. ending copy set fields
 
 four_tests : (copy : ℕ) (set : Field) (fields : List Field) (twice many barred within : Bool) → after_tests copy set fields twice many barred within ≡ (number_tests copy set twice many barred within >>= λ x. ending x.0 x.1 fields)
 four_tests copy set fields true many barred within = refl
@@ -182,7 +182,7 @@ second_wrong a b option (f ∷ fs) fault first into from is = go (bytes_eq f a) 
     neither p q (inl e) = is_other f a p e
     neither p q (inr e) = is_other f b q e
 
-    go : (x y z : Bool) → bytes_eq f a ≡ x → bytes_eq f b ≡ y → is_option f ≡ z → cond x (Err ExtraField) (cond y (Err Conflict) (unless z UnknownDirective)) ≡ Err fault → OptionFault (option ∷ []) f fault
+    go : (x y z : Bool) → bytes_eq f a ≡ x → bytes_eq f b ≡ y → is_option f ≡ z → cond x (Err ExtraField) (cond y (Err Conflict) (refuse_if z UnknownDirective)) ≡ Err fault → OptionFault (option ∷ []) f fault
     go true y z p q o is = let e : ExtraField ≡ fault = cc in subst (OptionFault (option ∷ []) f) e (is_same f a p ∙ sym first)
     go false true z p q o is = let e : Conflict ≡ fault = cc in subst (OptionFault (option ∷ []) f) e (into f (inr (is_same f b q)), λ same. is_other f a p (same ∙ first))
     go false false true p q o is = let e : UnknownDirective ≡ fault = cc in subst (OptionFault (option ∷ []) f) e (o, λ word. neither p q (from f word))
@@ -251,7 +251,7 @@ second_refused a b option (f ∷ fs) UnknownDirective first differ into from (o,
 second_refused a b option (f ∷ fs) ExtraField first differ into from e = rw (same f a (e ∙ first)) refl
 second_refused a b option (f ∷ fs) Conflict first differ into from (word, n) = go (from f word)
   where
-    go : (f ≡ a) ⊎ (f ≡ b) → cond (bytes_eq f a) (Err ExtraField) (cond (bytes_eq f b) (Err Conflict) (unless (is_option f) UnknownDirective)) ≡ failing Conflict
+    go : (f ≡ a) ⊎ (f ≡ b) → cond (bytes_eq f a) (Err ExtraField) (cond (bytes_eq f b) (Err Conflict) (refuse_if (is_option f) UnknownDirective)) ≡ failing Conflict
     go (inl e) = absurd (n (e ∙ sym first))
     go (inr e) = rw (other f a (λ d. n (d ∙ sym first)), same f b e) refl
 second_refused a b option (f ∷ fs) fault first differ into from wrong = absurd wrong

@@ -9,14 +9,14 @@ use Rattle.site_text.specs.Numbers.{number_in}
 use Rattle.site_text.specs.Ages.{age_of}
 use Rattle.site_text.specs.Values.{bad_value, age_value}
 use Rattle.site_text.specs.Words.{is_option}
-use Rattle.site_text.specs.Fields.{Field, Read, ◌>>=◌, no_field, wanted, unless}
+use Rattle.site_text.specs.Fields.{Field, Read, ◌>>=◌, no_field, wanted, refuse_if}
 use Rattle.archiver_lines.specs.declared.reading.CopyConf.{CopyConf}
 use Rattle.archiver_lines.specs.declared.reading.SetCopy.{SetCopy}
 use Rattle.archiver_lines.specs.Names.{set_place, is_too_many}
 use Rattle.archiver_lines.specs.CopyLines.{has_copy, no_second, copy_option, copy_ages, copy_conf, copy_line}
 use Rattle.archiver_lines.specs.Parts.{OptionSays, AgesSay, IsPlain}
 use Rattle.archiver_lines.specs.Says.{CopySays}
-use Rattle.archiver_lines.proofs.Tests.{bind_ok, wanted_said, unless_said, not_false, both_true, is_same, other, is_other, above, is_above}
+use Rattle.archiver_lines.proofs.Tests.{bind_ok, wanted_said, not_refused, not_false, both_true, is_same, other, is_other, above, is_above}
 
 -- ---- what is said is read
 
@@ -116,7 +116,7 @@ unfolding no_second
 no_second_said a b [] is = tt
 no_second_said a b (f ∷ fs) is = go (bytes_eq f a) (bytes_eq f b) (is_option f) is
   where
-    go : (x y z : Bool) → cond x (Err ExtraField) (cond y (Err Conflict) (unless z UnknownDirective)) ≡ fine → z ≡ false
+    go : (x y z : Bool) → cond x (Err ExtraField) (cond y (Err Conflict) (refuse_if z UnknownDirective)) ≡ fine → z ≡ false
     go true y z is = absurd cc
     go false true z is = absurd cc
     go false false true is = absurd cc
@@ -174,38 +174,38 @@ abbrev pub ending : ℕ → Field → List Field → Read SetCopy
 ending copy set fields = copy_conf copy fields >>= λ conf. Ok (set_copy set conf)
 
 abbrev ranged : ℕ → Field → List Field → Read SetCopy
-ranged copy set fields = unless (not (nat_le 1 copy && nat_le copy 4)) OutOfRange >>= λ u. ending copy set fields
+ranged copy set fields = refuse_if (not (nat_le 1 copy && nat_le copy 4)) OutOfRange >>= λ u. ending copy set fields
 
 abbrev archived : ℕ → Field → List Field → Read SetCopy
-archived copy set fields = unless (bytes_eq set (codes "no_archive")) Conflict >>= λ u. ranged copy set fields
+archived copy set fields = refuse_if (bytes_eq set (codes "no_archive")) Conflict >>= λ u. ranged copy set fields
 
 abbrev roomy : List Field → ℕ → Field → List Field → Read SetCopy
-roomy sets copy set fields = unless (is_too_many sets set) TooMany >>= λ u. archived copy set fields
+roomy sets copy set fields = refuse_if (is_too_many sets set) TooMany >>= λ u. archived copy set fields
 
 abbrev fresh : List SetCopy → List Field → ℕ → Field → List Field → Read SetCopy
-fresh copies sets copy set fields = unless (has_copy copies set copy) CopyTwice >>= λ u. roomy sets copy set fields
+fresh copies sets copy set fields = refuse_if (has_copy copies set copy) CopyTwice >>= λ u. roomy sets copy set fields
 
 pub copy_said : (target : Option Field) (copies : List SetCopy) (sets : List Field) (field : Field) (fields : List Field) (line : SetCopy) → copy_line target copies sets field fields ≡ Ok line → CopySays target copies sets field fields line
 unfolding copy_line
 copy_said target copies sets field fields line is =
     let n = bind_ok (wanted (number_in 9 field) BadValue) (λ copy. wanted target CopyBeforeSet >>= λ set. fresh copies sets copy set fields) line is in
     let s = bind_ok (wanted target CopyBeforeSet) (λ set. fresh copies sets n.0 set fields) line n.2 in
-    let f = bind_ok (unless (has_copy copies s.0 n.0) CopyTwice) (λ u. roomy sets n.0 s.0 fields) line s.2 in
-    let m = bind_ok (unless (is_too_many sets s.0) TooMany) (λ u. archived n.0 s.0 fields) line f.2 in
-    let a = bind_ok (unless (bytes_eq s.0 (codes "no_archive")) Conflict) (λ u. ranged n.0 s.0 fields) line m.2 in
-    let r = bind_ok (unless (not (nat_le 1 n.0 && nat_le n.0 4)) OutOfRange) (λ u. ending n.0 s.0 fields) line a.2 in
+    let f = bind_ok (refuse_if (has_copy copies s.0 n.0) CopyTwice) (λ u. roomy sets n.0 s.0 fields) line s.2 in
+    let m = bind_ok (refuse_if (is_too_many sets s.0) TooMany) (λ u. archived n.0 s.0 fields) line f.2 in
+    let a = bind_ok (refuse_if (bytes_eq s.0 (codes "no_archive")) Conflict) (λ u. ranged n.0 s.0 fields) line m.2 in
+    let r = bind_ok (refuse_if (not (nat_le 1 n.0 && nat_le n.0 4)) OutOfRange) (λ u. ending n.0 s.0 fields) line a.2 in
     let c = bind_ok (copy_conf n.0 fields) (λ conf. Ok (set_copy s.0 conf)) line r.2 in
     let e : set_copy s.0 c.0 ≡ line = (let h = c.2 in cc) in
     let says = conf_said n.0 fields c.0 c.1 in
-    let within = both_true (nat_le 1 n.0) (nat_le n.0 4) (not_false _ (unless_said _ OutOfRange r.0 r.1)) in
+    let within = both_true (nat_le 1 n.0) (nat_le n.0 4) (not_false _ (not_refused _ OutOfRange r.0 r.1)) in
     subst (CopySays target copies sets field fields) e (record {
       belongs = wanted_said target CopyBeforeSet s.0 s.1;
-      archived = is_other s.0 (codes "no_archive") (unless_said _ Conflict a.0 a.1);
-      room = is_above 64 (set_place sets s.0) (unless_said _ TooMany m.0 m.1);
+      archived = is_other s.0 (codes "no_archive") (not_refused _ Conflict a.0 a.1);
+      room = is_above 64 (set_place sets s.0) (not_refused _ TooMany m.0 m.1);
       number = wanted_said (number_in 9 field) BadValue n.0 n.1 ∙ ap (λ (k : ℕ). some_number k) says.0;
       low = subst (λ k. 1 ≤ k) says.0 (leb-true _ _ within.0);
       high = subst (λ k. k ≤ 4) says.0 (leb-true _ _ within.1);
-      fresh = ap (λ (k : ℕ). has_copy copies s.0 k) (sym says.0) ∙ unless_said _ CopyTwice f.0 f.1;
+      fresh = ap (λ (k : ℕ). has_copy copies s.0 k) (sym says.0) ∙ not_refused _ CopyTwice f.0 f.1;
       options = says.1.options;
       ages = says.1.ages;
       parts = says.1.parts;

@@ -5,7 +5,7 @@ use Rattle.std.specs.Str.{bytes_eq}
 use Rattle.site_text.specs.declared.fault.ConfFault.{ConfFault}
 use Rattle.site_text.specs.declared.fault.ConfFault.TheVariants.{BadValue, UnknownSet}
 use Rattle.site_text.specs.Values.{is_name}
-use Rattle.site_text.specs.Fields.{Field, Read, ◌>>=◌, wanted, unless}
+use Rattle.site_text.specs.Fields.{Field, Read, ◌>>=◌, wanted, refuse_if}
 use Rattle.archiver_lines.specs.declared.reading.CopyName.{CopyName}
 use Rattle.archiver_lines.specs.declared.reading.CopyName.TheVariants.{AllSets, AllSetsCopy, SetCopy}
 use Rattle.archiver_lines.specs.declared.reading.Reading.{Reading}
@@ -18,13 +18,13 @@ abbrev told_name : CopyName → Read CopyName
 told_name name = Ok name
 
 abbrev known_read : Field → ℕ → Bool → Read CopyName
-known_read set copy known = unless (not known) UnknownSet >>= λ u. told_name (SetCopy set copy)
+known_read set copy known = refuse_if (not known) UnknownSet >>= λ u. told_name (SetCopy set copy)
 
 abbrev set_read : Field → ℕ → Bool → Bool → Read CopyName
 set_read set copy all known = cond all (told_name (AllSetsCopy copy)) (known_read set copy known)
 
 abbrev numbered_read : Field → Option ℕ → Bool → Bool → Bool → Read CopyName
-numbered_read set number form all known = wanted number BadValue >>= λ copy. unless (not form) BadValue >>= λ u. set_read set copy all known
+numbered_read set number form all known = wanted number BadValue >>= λ copy. refuse_if (not form) BadValue >>= λ u. set_read set copy all known
 
 -- a field is cut in one way, so that another cut tells of the same number and set
 same_cut : (field set number : Field) → around_last_dot field ≡ Some (set, number) → (s : Field) (copy : ℕ) → IsNumbered field s copy → (copy_number number ≡ Some copy) × (is_name 32 set ≡ true)

@@ -4,14 +4,14 @@ use Rattle.std.specs.Prelude.{not}
 use Rattle.std.specs.Str.{bytes_eq}
 use Rattle.site_text.specs.declared.fault.ConfFault.TheVariants.{BadValue, UnknownSet}
 use Rattle.site_text.specs.Values.{is_name}
-use Rattle.site_text.specs.Fields.{Field, Read, ◌>>=◌, wanted, unless}
+use Rattle.site_text.specs.Fields.{Field, Read, ◌>>=◌, wanted, refuse_if}
 use Rattle.archiver_lines.specs.declared.reading.CopyName.{CopyName}
 use Rattle.archiver_lines.specs.declared.reading.CopyName.TheVariants.{AllSets, AllSetsCopy, SetCopy}
 use Rattle.archiver_lines.specs.declared.reading.Reading.{Reading}
 use Rattle.archiver_lines.specs.Names.{is_known, copy_number, around_last_dot, numbered_name, name_by_parts, copy_name}
 use Rattle.archiver_lines.specs.Told.{file_systems_of, sets_of}
 use Rattle.archiver_lines.specs.Parts.{NameSays}
-use Rattle.archiver_lines.proofs.Tests.{bind_ok, wanted_said, unless_said, not_false, same, is_same, other, is_other}
+use Rattle.archiver_lines.proofs.Tests.{bind_ok, wanted_said, not_refused, not_false, same, is_same, other, is_other}
 
 pub name_read : (site : Field) (before : List Reading) (field : Field) (name : CopyName) → NameSays site before field name → copy_name site (file_systems_of before) (sets_of before) field ≡ Ok name
 unfolding copy_name numbered_name
@@ -23,25 +23,25 @@ abbrev parts_of : Field → Field → Option (Field × Field)
 parts_of set number = Some (set, number)
 
 abbrev chosen : Field → List Reading → Field → ℕ → Read CopyName
-chosen site before set copy = cond (bytes_eq set (codes "allsets")) (Ok (AllSetsCopy copy)) (unless (not (is_known site (file_systems_of before) (sets_of before) set)) UnknownSet >>= λ u. Ok (SetCopy set copy))
+chosen site before set copy = cond (bytes_eq set (codes "allsets")) (Ok (AllSetsCopy copy)) (refuse_if (not (is_known site (file_systems_of before) (sets_of before) set)) UnknownSet >>= λ u. Ok (SetCopy set copy))
 
 numbered_said : (site : Field) (before : List Reading) (field set number : Field) (name : CopyName) → ¬ (field ≡ codes "allsets") → around_last_dot field ≡ parts_of set number
     → numbered_name site (file_systems_of before) (sets_of before) set number ≡ Ok name → NameSays site before field name
 unfolding numbered_name
 numbered_said site before field set number name n cut is =
-    let copy = bind_ok (wanted (copy_number number) BadValue) (λ copy. unless (not (is_name 32 set)) BadValue >>= λ u. chosen site before set copy) name is in
-    let form = bind_ok (unless (not (is_name 32 set)) BadValue) (λ u. chosen site before set copy.0) name copy.2 in
-    go (bytes_eq set (codes "allsets")) copy.0 (wanted_said (copy_number number) BadValue copy.0 copy.1) (not_false _ (unless_said _ BadValue form.0 form.1)) refl form.2
+    let copy = bind_ok (wanted (copy_number number) BadValue) (λ copy. refuse_if (not (is_name 32 set)) BadValue >>= λ u. chosen site before set copy) name is in
+    let form = bind_ok (refuse_if (not (is_name 32 set)) BadValue) (λ u. chosen site before set copy.0) name copy.2 in
+    go (bytes_eq set (codes "allsets")) copy.0 (wanted_said (copy_number number) BadValue copy.0 copy.1) (not_false _ (not_refused _ BadValue form.0 form.1)) refl form.2
   where
     go : (b : Bool) (copy : ℕ) → copy_number number ≡ Some copy → is_name 32 set ≡ true → bytes_eq set (codes "allsets") ≡ b
-        → cond b (Ok (AllSetsCopy copy)) (unless (not (is_known site (file_systems_of before) (sets_of before) set)) UnknownSet >>= λ u. Ok (SetCopy set copy)) ≡ Ok name → NameSays site before field name
+        → cond b (Ok (AllSetsCopy copy)) (refuse_if (not (is_known site (file_systems_of before) (sets_of before) set)) UnknownSet >>= λ u. Ok (SetCopy set copy)) ≡ Ok name → NameSays site before field name
     go true copy num form p is =
         let e : AllSetsCopy copy ≡ name = cc in
         subst (NameSays site before field) e (n, (number, cut ∙ ap (λ (s : Field). parts_of s number) (is_same set (codes "allsets") p), num))
     go false copy num form p is =
-        let k = bind_ok (unless (not (is_known site (file_systems_of before) (sets_of before) set)) UnknownSet) (λ u. Ok (SetCopy set copy)) name is in
+        let k = bind_ok (refuse_if (not (is_known site (file_systems_of before) (sets_of before) set)) UnknownSet) (λ u. Ok (SetCopy set copy)) name is in
         let e : SetCopy set copy ≡ name = (let h = k.2 in cc) in
-        subst (NameSays site before field) e (n, is_other set (codes "allsets") p, (number, cut, num, form, not_false _ (unless_said _ UnknownSet k.0 k.1)))
+        subst (NameSays site before field) e (n, is_other set (codes "allsets") p, (number, cut, num, form, not_false _ (not_refused _ UnknownSet k.0 k.1)))
 
 parts_said : (site : Field) (before : List Reading) (field : Field) (name : CopyName) (parts : Option (Field × Field)) → ¬ (field ≡ codes "allsets") → around_last_dot field ≡ parts
     → name_by_parts site (file_systems_of before) (sets_of before) parts ≡ Ok name → NameSays site before field name

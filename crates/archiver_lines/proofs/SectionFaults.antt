@@ -5,7 +5,7 @@ use Rattle.std.proofs.lemmas.Bool.{ltb-true, lt-ltb}
 use Rattle.site_text.specs.declared.fault.ConfFault.{ConfFault}
 use Rattle.site_text.specs.declared.fault.ConfFault.TheVariants.{MissingField, BadValue, TooMany}
 use Rattle.site_text.specs.Values.{is_media}
-use Rattle.site_text.specs.Fields.{Field, Read, ◌>>=◌, map_read, next_field, unless}
+use Rattle.site_text.specs.Fields.{Field, Read, ◌>>=◌, map_read, next_field, refuse_if}
 use Rattle.site_text.specs.Options.{options_of}
 use Rattle.site_text.proofs.OptionLaws.{options_said, options_read, options_wrong, options_refused}
 use Rattle.archiver_lines.specs.declared.param_options.Given.{Given}
@@ -64,7 +64,7 @@ by_table before number media items read is = items_are (pools_of before) media n
 room_wrong : (before : List Reading) (name : CopyName) (exprs : List VsnExpr) (fault : ConfFault) → fits_read before name exprs ≡ Err fault → (room_of before < length exprs) × (fault ≡ TooMany)
 room_wrong before name exprs fault is = go (nat_lt (room_of before) (length exprs)) refl is
   where
-    go : (b : Bool) → nat_lt (room_of before) (length exprs) ≡ b → (unless b TooMany >>= λ u. Ok (vsns_told name exprs)) ≡ Err fault → (room_of before < length exprs) × (fault ≡ TooMany)
+    go : (b : Bool) → nat_lt (room_of before) (length exprs) ≡ b → (refuse_if b TooMany >>= λ u. Ok (vsns_told name exprs)) ≡ Err fault → (room_of before < length exprs) × (fault ≡ TooMany)
     go true p is = (ltb-true _ _ p, (let e : TooMany ≡ fault = cc in sym e))
     go false p is = absurd cc
 
@@ -99,7 +99,7 @@ unfolding next_field
 media_wrong before number name [] fault is = (let e : MissingField ≡ fault = cc in sym e)
 media_wrong before number name (media ∷ items) fault is = go (is_media media) refl is
   where
-    go : (b : Bool) → is_media media ≡ b → (unless (not b) BadValue >>= λ u. some_read before number name (media_of media items)) ≡ Err fault → BehindName before number (media ∷ items) fault
+    go : (b : Bool) → is_media media ≡ b → (refuse_if (not b) BadValue >>= λ u. some_read before number name (media_of media items)) ≡ Err fault → BehindName before number (media ∷ items) fault
     go true legal is = inr (legal, items_wrong before number name media items fault is)
     go false illegal is = inl (illegal, (let e : BadValue ≡ fault = cc in sym e))
 

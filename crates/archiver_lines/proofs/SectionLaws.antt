@@ -7,7 +7,7 @@ use Rattle.std.proofs.lemmas.List.{append-nil}
 use Rattle.std.proofs.lemmas.Bool.{eqb-true}
 use Rattle.site_text.specs.declared.fault.ConfFault.TheVariants.{MissingField, BadValue, UnknownPool, TooMany}
 use Rattle.site_text.specs.Values.{is_media}
-use Rattle.site_text.specs.Fields.{Field, Read, ◌>>=◌, map_read, next_field, unless}
+use Rattle.site_text.specs.Fields.{Field, Read, ◌>>=◌, map_read, next_field, refuse_if}
 use Rattle.site_text.specs.Options.{OptionsSay, options_of}
 use Rattle.site_text.proofs.OptionLaws.{options_said, options_read}
 use Rattle.archiver_lines.specs.declared.param_options.Given.{Given}
@@ -22,7 +22,7 @@ use Rattle.archiver_lines.specs.ParamOptions.{params_table}
 use Rattle.archiver_lines.specs.SectionLines.{expr_of, pool_exprs, is_pool, item_table, items_of, all_exprs, params_line, vsns_line}
 use Rattle.archiver_lines.specs.Told.{file_systems_of, sets_of, params_of, pools_of, room_of}
 use Rattle.archiver_lines.specs.Says.{ParamsSays, VsnsSays}
-use Rattle.archiver_lines.proofs.Tests.{bind_ok, unless_said, not_false, not_less, is_not_less}
+use Rattle.archiver_lines.proofs.Tests.{bind_ok, not_refused, not_false, not_less, is_not_less}
 use Rattle.archiver_lines.proofs.NameLaws.{name_read, name_said}
 use Rattle.archiver_lines.proofs.AssignLaws.{next_said}
 
@@ -121,16 +121,16 @@ abbrev pub vsns_told : CopyName → List VsnExpr → VsnsLine
 vsns_told name exprs = record { name = name; exprs = exprs }
 
 abbrev pub fits_read : List Reading → CopyName → List VsnExpr → Read VsnsLine
-fits_read before name exprs = unless (nat_lt (room_of before) (length exprs)) TooMany >>= λ u. Ok (vsns_told name exprs)
+fits_read before name exprs = refuse_if (nat_lt (room_of before) (length exprs)) TooMany >>= λ u. Ok (vsns_told name exprs)
 
 abbrev pub exprs_read : List Reading → ℕ → CopyName → Field × List Field → Read VsnsLine
 exprs_read before number name media = items_of (pools_of before) media.0 number [] media.1 >>= λ exprs. fits_read before name exprs
 
 abbrev pub some_read : List Reading → ℕ → CopyName → Field × List Field → Read VsnsLine
-some_read before number name media = unless (length media.1 == 0) MissingField >>= λ u. exprs_read before number name media
+some_read before number name media = refuse_if (length media.1 == 0) MissingField >>= λ u. exprs_read before number name media
 
 abbrev pub legal_read : List Reading → ℕ → CopyName → Field × List Field → Read VsnsLine
-legal_read before number name media = unless (not (is_media media.0)) BadValue >>= λ u. some_read before number name media
+legal_read before number name media = refuse_if (not (is_media media.0)) BadValue >>= λ u. some_read before number name media
 
 abbrev Split : List Field → Type 0
 Split fields = (first : Field) × (rest : List Field) × (fields ≡ first ∷ rest)
@@ -144,22 +144,22 @@ unfolding vsns_line
 vsns_said site before number field fields line is =
     let n = bind_ok (copy_name site (file_systems_of before) (sets_of before) field) (λ name. next_field fields >>= λ media. legal_read before number name media) line is in
     let m = bind_ok (next_field fields) (λ media. legal_read before number n.0 media) line n.2 in
-    let l = bind_ok (unless (not (is_media m.0.0)) BadValue) (λ u. some_read before number n.0 m.0) line m.2 in
-    let s = bind_ok (unless (length m.0.1 == 0) MissingField) (λ u. exprs_read before number n.0 m.0) line l.2 in
+    let l = bind_ok (refuse_if (not (is_media m.0.0)) BadValue) (λ u. some_read before number n.0 m.0) line m.2 in
+    let s = bind_ok (refuse_if (length m.0.1 == 0) MissingField) (λ u. exprs_read before number n.0 m.0) line l.2 in
     let x = bind_ok (items_of (pools_of before) m.0.0 number [] m.0.1) (λ exprs. fits_read before n.0 exprs) line s.2 in
-    let r = bind_ok (unless (nat_lt (room_of before) (length x.0)) TooMany) (λ u. Ok (vsns_told n.0 x.0)) line x.2 in
+    let r = bind_ok (refuse_if (nat_lt (room_of before) (length x.0)) TooMany) (λ u. Ok (vsns_told n.0 x.0)) line x.2 in
     let e : vsns_told n.0 x.0 ≡ line = (let h = r.2 in cc) in
     let g = items_said (pools_of before) m.0.0 number m.0.1 x.0 x.1 in
-    let split = not_empty m.0.1 (unless_said _ MissingField s.0 s.1) in
+    let split = not_empty m.0.1 (not_refused _ MissingField s.0 s.1) in
     subst (VsnsSays site before number field fields) e (record {
       name = name_said site before field n.0 n.1;
       media = m.0.0;
       first = split.0;
       rest = split.1;
       cut = next_said fields m.0 m.1 ∙ ap (λ (fs : List Field). m.0.0 ∷ fs) split.2;
-      legal = not_false _ (unless_said _ BadValue l.0 l.1);
+      legal = not_false _ (not_refused _ BadValue l.0 l.1);
       given = g.0;
       items = subst (λ (fs : List Field). OptionsSay (item_table (pools_of before) m.0.0 number) [] fs g.0) split.2 g.1;
       is = g.2;
-      room = is_not_less (room_of before) (length x.0) (unless_said _ TooMany r.0 r.1);
+      room = is_not_less (room_of before) (length x.0) (not_refused _ TooMany r.0 r.1);
     })

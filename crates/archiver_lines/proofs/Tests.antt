@@ -5,7 +5,7 @@ use Rattle.std.specs.Str.{bytes_eq}
 use Rattle.std.proofs.lemmas.Bool.{leb-true, leb-false, ltb-true, ltb-false}
 use Rattle.std.proofs.lemmas.Slice.Eq.{bytes_eq-Decides}
 use Rattle.site_text.specs.declared.fault.ConfFault.{ConfFault}
-use Rattle.site_text.specs.Fields.{Field, Read, ◌>>=◌, wanted, unless}
+use Rattle.site_text.specs.Fields.{Field, Read, ◌>>=◌, wanted, refuse_if}
 
 -- both steps of a reading that gives something give something
 pub bind_ok : {A B : Type 0} (r : Read A) (f : A → Read B) (y : B) → (r >>= f) ≡ Ok y → (x : A) × (r ≡ Ok x) × (f x ≡ Ok y)
@@ -16,9 +16,9 @@ pub wanted_said : {A : Type 0} (o : Option A) (fault : ConfFault) (x : A) → wa
 wanted_said (Some y) fault x is = let e : y ≡ x = cc in rw e refl
 wanted_said None fault x is = absurd cc
 
-pub unless_said : (b : Bool) (fault : ConfFault) (x : Unit {0}) → unless b fault ≡ Ok x → b ≡ false
-unless_said true fault x is = absurd cc
-unless_said false fault x is = refl
+pub not_refused : (b : Bool) (fault : ConfFault) (x : Unit {0}) → refuse_if b fault ≡ Ok x → b ≡ false
+not_refused true fault x is = absurd cc
+not_refused false fault x is = refl
 
 pub not_false : (b : Bool) → not b ≡ false → b ≡ true
 not_false true is = refl

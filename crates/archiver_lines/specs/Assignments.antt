@@ -2,7 +2,7 @@
 use Rattle.std.specs.Prelude.{ℕ, List, [], codes, fold, Option, Some, None, Ok, ◌||◌, not, nat_le, unwrap_or}
 use Rattle.std.specs.Str.{bytes_eq}
 use Rattle.site_text.specs.declared.fault.ConfFault.TheVariants.{BadValue, TooMany, Conflict}
-use Rattle.site_text.specs.Fields.{Field, Read, ◌>>=◌, next_field, unless}
+use Rattle.site_text.specs.Fields.{Field, Read, ◌>>=◌, next_field, refuse_if}
 use Rattle.site_text.specs.Options.{options_of}
 use Rattle.archiver_lines.specs.declared.criteria.Criterion.{Criterion}
 use Rattle.archiver_lines.specs.declared.criteria.Criterion.TheVariants.{Name, User, Group, Minsize, Maxsize, Access, Release, Stage}
@@ -112,10 +112,10 @@ with_criterion a c = record {
 -- `SET PATH` and criteria and attributes, behind so many assignment lines
 unfoldable pub assign_line : Local → ℕ → List Field → ℕ → Field → List Field → Read Reading
 assign_line local lines sets number field fields = do
-  form ← unless (not (is_set_name field)) BadValue
-  room ← unless (nat_le 64 lines || nat_le 64 (set_place sets field)) TooMany
-  own ← unless (bytes_eq field (codes "allsets")) Conflict
+  form ← refuse_if (not (is_set_name field)) BadValue
+  room ← refuse_if (nat_le 64 lines || nat_le 64 (set_place sets field)) TooMany
+  own ← refuse_if (bytes_eq field (codes "allsets")) Conflict
   path ← next_field fields
-  legal ← unless (not (is_set_path path.0)) BadValue
+  legal ← refuse_if (not (is_set_path path.0)) BadValue
   given ← options_of criteria_table [] path.1
   Ok (readings.Assign field (assigned number (set_place sets field) local path.0 given))

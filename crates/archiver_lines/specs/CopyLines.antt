@@ -3,7 +3,7 @@ use Rattle.std.specs.Prelude.{ℕ, List, [], ◌∷◌, codes, Option, Some, Non
 use Rattle.std.specs.List.{list_any}
 use Rattle.std.specs.Str.{bytes_eq}
 use Rattle.site_text.specs.declared.fault.ConfFault.TheVariants.{UnknownDirective, ExtraField, BadValue, CopyBeforeSet, CopyTwice, TooMany, Conflict, OutOfRange}
-use Rattle.site_text.specs.Fields.{Field, Read, ◌>>=◌, no_field, wanted, unless}
+use Rattle.site_text.specs.Fields.{Field, Read, ◌>>=◌, no_field, wanted, refuse_if}
 use Rattle.site_text.specs.Numbers.{number_in}
 use Rattle.site_text.specs.Values.{age_value}
 use Rattle.site_text.specs.Words.{is_option}
@@ -33,7 +33,7 @@ no_second same other [] = Ok tt
 no_second same other (field ∷ fields) =
     if bytes_eq field same then Err ExtraField
     else if bytes_eq field other then Err Conflict
-    else unless (is_option field) UnknownDirective
+    else refuse_if (is_option field) UnknownDirective
 
 -- whether `-release` and `-norelease` stand, and the fields behind
 unfoldable pub copy_option : List Field → Read ((Bool × Bool) × List Field)
@@ -55,9 +55,9 @@ unfoldable pub copy_line : Option Field → List SetCopy → List Field → Fiel
 copy_line target copies sets field fields = do
   copy ← wanted (number_in 9 field) BadValue
   set ← wanted target CopyBeforeSet
-  fresh ← unless (has_copy copies set copy) CopyTwice
-  room ← unless (is_too_many sets set) TooMany
-  archived ← unless (bytes_eq set (codes "no_archive")) Conflict
-  range ← unless (not (nat_le 1 copy && nat_le copy 4)) OutOfRange
+  fresh ← refuse_if (has_copy copies set copy) CopyTwice
+  room ← refuse_if (is_too_many sets set) TooMany
+  archived ← refuse_if (bytes_eq set (codes "no_archive")) Conflict
+  range ← refuse_if (not (nat_le 1 copy && nat_le copy 4)) OutOfRange
   conf ← copy_conf copy fields
   Ok (record { set = set; conf = conf })

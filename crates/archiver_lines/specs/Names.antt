@@ -3,7 +3,7 @@ use Rattle.std.specs.Prelude.{ℕ, suc, ◌+◌, take, drop, option_map, List, [
 use Rattle.std.specs.List.{list_all, list_any}
 use Rattle.std.specs.Str.{bytes_eq}
 use Rattle.site_text.specs.declared.fault.ConfFault.TheVariants.{BadValue, UnknownSet}
-use Rattle.site_text.specs.Fields.{Field, Read, ◌>>=◌, wanted, unless}
+use Rattle.site_text.specs.Fields.{Field, Read, ◌>>=◌, wanted, refuse_if}
 use Rattle.site_text.specs.Numbers.{number_within}
 use Rattle.site_text.specs.Values.{is_letter, is_digit, is_name}
 use Rattle.archiver_lines.specs.declared.reading.CopyName.{CopyName}
@@ -62,9 +62,9 @@ is_known site file_systems sets name = bytes_eq name site || is_in file_systems 
 unfoldable pub numbered_name : Field → List Field → List Field → Field → Field → Read CopyName
 numbered_name site file_systems sets set number = do
   copy ← wanted (copy_number number) BadValue
-  form ← unless (not (is_name 32 set)) BadValue
+  form ← refuse_if (not (is_name 32 set)) BadValue
   if bytes_eq set (codes "allsets") then Ok (AllSetsCopy copy) else (do
-    known ← unless (not (is_known site file_systems sets set)) UnknownSet
+    known ← refuse_if (not (is_known site file_systems sets set)) UnknownSet
     Ok (SetCopy set copy))
 
 -- what a name says that is cut so

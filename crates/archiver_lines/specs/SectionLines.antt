@@ -3,7 +3,7 @@ use Rattle.std.specs.Prelude.{ℕ, List, [], ◌∷◌, ◌++◌, codes, length,
 use Rattle.std.specs.List.{list_any}
 use Rattle.std.specs.Str.{bytes_eq}
 use Rattle.site_text.specs.declared.fault.ConfFault.TheVariants.{MissingField, BadValue, UnknownPool, TooMany}
-use Rattle.site_text.specs.Fields.{Field, Read, ◌>>=◌, next_field, unless}
+use Rattle.site_text.specs.Fields.{Field, Read, ◌>>=◌, next_field, refuse_if}
 use Rattle.site_text.specs.Values.{is_media}
 use Rattle.site_text.specs.Forms.{Form}
 use Rattle.site_text.specs.Kinds.{Value, Text, Number, any_field, media_field, text_at}
@@ -100,8 +100,8 @@ unfoldable pub vsns_line : Field → List Field → List Field → List PoolLine
 vsns_line site file_systems sets pools room number field fields = do
   name ← copy_name site file_systems sets field
   media ← next_field fields
-  legal ← unless (not (is_media media.0)) BadValue
-  items ← unless (length media.1 == 0) MissingField
+  legal ← refuse_if (not (is_media media.0)) BadValue
+  items ← refuse_if (length media.1 == 0) MissingField
   exprs ← items_of pools media.0 number [] media.1
-  fits ← unless (nat_lt room (length exprs)) TooMany
+  fits ← refuse_if (nat_lt room (length exprs)) TooMany
   Ok (record { name = name; exprs = exprs })

@@ -8,7 +8,7 @@ use crate::criteria::{Criterion, Release, Stage, read_criteria};
 use crate::names::{MOST_SETS, is_set_name, set_place};
 use crate::paths::is_set_path;
 use crate::reading::{Assignment, Local, Reading};
-use site_text::{Bytes, ConfFault, Fields, LineError, List, unless};
+use site_text::{Bytes, ConfFault, Fields, LineError, List, refuse_if};
 use std::alloc::Global;
 
 /// The limit on the number of assignment lines.
@@ -78,15 +78,15 @@ pub fn assign_line(
 ) -> Result<Reading, LineError>
     ensures { Gives (λ reading. reading) result (assign_line before.now.local before.now.lines before.now.sets.now number field.now fields.now) }
 {
-    unless(!is_set_name(field), ConfFault::BadValue)?;
+    refuse_if(!is_set_name(field), ConfFault::BadValue)?;
     let set = set_place(before.sets, field);
     if MOST_LINES <= before.lines || MOST_SETS <= set {
         return Err(LineError::Fault(ConfFault::TooMany));
     }
-    unless(field == b"allsets".as_slice(), ConfFault::Conflict)?;
+    refuse_if(field == b"allsets".as_slice(), ConfFault::Conflict)?;
     let mut fields = Fields::new(fields);
     let path = fields.next()?;
-    unless(!is_set_path(path), ConfFault::BadValue)?;
+    refuse_if(!is_set_path(path), ConfFault::BadValue)?;
     let mut given = List::new(alloc);
     read_criteria(alloc, &mut given, fields)?;
     let path = Bytes::from_slice(alloc, path)?;

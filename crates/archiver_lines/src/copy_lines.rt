@@ -7,7 +7,9 @@ ghost use Rattle.archiver_lines.specs.CopyLines.{has_copy, no_second, copy_optio
 
 use crate::names::is_too_many;
 use crate::reading::{CopyConf, SetCopy};
-use site_text::{Bytes, ConfFault, Fields, LineError, age_value, is_option, read_number, unless};
+use site_text::{
+    Bytes, ConfFault, Fields, LineError, age_value, is_option, read_number, refuse_if,
+};
 use std::alloc::Global;
 
 /// The age in seconds at which a copy is made where its line gives none.
@@ -61,7 +63,7 @@ fn no_second(same: &[u8], other: &[u8], fields: &[Bytes]) -> Result<(), ConfFaul
     if first == other {
         return Err(ConfFault::Conflict);
     }
-    unless(is_option(first), ConfFault::UnknownDirective)
+    refuse_if(is_option(first), ConfFault::UnknownDirective)
 }
 
 /// Whether `-release` and `-norelease` stand, and the fields behind.
@@ -122,10 +124,10 @@ pub fn copy_line(
         return Err(LineError::Fault(ConfFault::CopyBeforeSet));
     };
     let set = set.as_slice();
-    unless(has_copy(copies, set, copy), ConfFault::CopyTwice)?;
-    unless(is_too_many(sets, set), ConfFault::TooMany)?;
-    unless(set == b"no_archive".as_slice(), ConfFault::Conflict)?;
-    unless(!(1 <= copy && copy <= 4), ConfFault::OutOfRange)?;
+    refuse_if(has_copy(copies, set, copy), ConfFault::CopyTwice)?;
+    refuse_if(is_too_many(sets, set), ConfFault::TooMany)?;
+    refuse_if(set == b"no_archive".as_slice(), ConfFault::Conflict)?;
+    refuse_if(!(1 <= copy && copy <= 4), ConfFault::OutOfRange)?;
     let conf = copy_conf(copy as u8, fields)?;
     let set = Bytes::from_slice(alloc, set)?;
     Ok(SetCopy { set, conf })

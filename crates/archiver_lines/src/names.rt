@@ -10,7 +10,8 @@ ghost use Rattle.archiver_lines.specs.Names.{is_set_byte, is_set_name, is_in, se
 
 use crate::reading::CopyName;
 use site_text::{
-    Bytes, ConfFault, LineError, cut_at, is_digit, is_letter, is_name, read_number_within, unless,
+    Bytes, ConfFault, LineError, cut_at, is_digit, is_letter, is_name, read_number_within,
+    refuse_if,
 };
 use std::alloc::Global;
 
@@ -150,11 +151,11 @@ fn numbered_name(
     ensures { Gives (λ name. name) result (numbered_name names.now.site.now names.now.file_systems.now names.now.sets.now set.now number.now) }
 {
     let copy = copy_number(number).ok_or(ConfFault::BadValue)?;
-    unless(!is_name(32, set), ConfFault::BadValue)?;
+    refuse_if(!is_name(32, set), ConfFault::BadValue)?;
     if set == b"allsets".as_slice() {
         return Ok(CopyName::AllSetsCopy(copy));
     }
-    unless(!is_known(names, set), ConfFault::UnknownSet)?;
+    refuse_if(!is_known(names, set), ConfFault::UnknownSet)?;
     Ok(CopyName::SetCopy(Bytes::from_slice(alloc, set)?, copy))
 }
 

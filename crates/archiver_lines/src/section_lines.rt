@@ -8,7 +8,7 @@ ghost use Rattle.archiver_lines.specs.SectionLines.{expr_of, is_of_pool, exprs_a
 use crate::names::{SetNames, copy_name};
 use crate::param_options::read_param_options;
 use crate::reading::{ParamsLine, PoolLine, VsnExpr, VsnsLine};
-use site_text::{Bytes, ConfFault, Fields, LineError, List, is_media, unless};
+use site_text::{Bytes, ConfFault, Fields, LineError, List, is_media, refuse_if};
 use std::alloc::{AllocError, Global};
 
 /// `NAME` and options, behind these lines of params.
@@ -181,14 +181,14 @@ pub fn vsns_line(
         return Err(LineError::Fault(ConfFault::MissingField));
     };
     let media = media.as_slice();
-    unless(!is_media(media), ConfFault::BadValue)?;
-    unless(rest.is_empty(), ConfFault::MissingField)?;
+    refuse_if(!is_media(media), ConfFault::BadValue)?;
+    refuse_if(rest.is_empty(), ConfFault::MissingField)?;
     let items = Items {
         pools,
         media,
         line: number,
     };
     let exprs = vsn_items(alloc, &items, Fields::new(rest))?;
-    unless(room < exprs.len(), ConfFault::TooMany)?;
+    refuse_if(room < exprs.len(), ConfFault::TooMany)?;
     Ok(VsnsLine { name, exprs })
 }

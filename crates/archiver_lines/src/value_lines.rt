@@ -11,7 +11,7 @@ ghost use Rattle.archiver_lines.specs.declared.value_lines.Directive.TheVariants
 
 use crate::reading::Reading;
 use site_text::{
-    Bytes, ConfFault, Fields, LineError, find_word, is_name, read_ignored, unless, value_line,
+    Bytes, ConfFault, Fields, LineError, find_word, is_name, read_ignored, refuse_if, value_line,
 };
 use std::alloc::Global;
 

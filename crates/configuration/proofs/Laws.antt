@@ -27,7 +27,8 @@ use Rattle.records.specs.declared.reply.CommandFile.{CommandFile}
 use Rattle.records.specs.declared.reply.CommandFile.TheVariants.{Site, Archiver, Stager, Releaser, Recycler}
 use Rattle.configuration.specs.declared.read.FileRefusal.{FileRefusal}
 use Rattle.configuration.specs.declared.read.Configuration.{Configuration}
-use Rattle.configuration.specs.Readings.{IsWithin, AreWithin, is_within, are_within, no_texts, site_reading, site_told, archiver_reading, stager_reading, releaser_reading, recycler_reading, first_of, refusal_in, refusal_within, refusal_by, refusal_of, cache_by, blocks_of}
+use Rattle.configuration.specs.Readings.{IsWithin, AreWithin, is_within, are_within, site_reading, site_told, archiver_reading, stager_reading, releaser_reading, recycler_reading, first_of, refusal_in, refusal_within, refusal_by, refusal_of, cache_by, blocks_of}
+use Rattle.records.specs.Texts.{no_texts}
 use Rattle.configuration.specs.Says.{Readings, SayReadings, Says, IsFirstWrong}
 use Rattle.configuration.proofs.EachFile.{site_means, archiver_means, stager_means, releaser_means, recycler_means}
 

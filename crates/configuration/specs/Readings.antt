@@ -1,5 +1,5 @@
 -- What the five command files of a site say, and which of them is the first that is refused.
-use Rattle.std.specs.Prelude.{ℕ, ◌/◌, ◌≤◌, nat_le, Bool, ◌&&◌, List, [], length, codes, Option, Some, None, Result, Ok, Err, unwrap_or}
+use Rattle.std.specs.Prelude.{ℕ, ◌/◌, ◌≤◌, nat_le, Bool, ◌&&◌, List, length, codes, Option, Some, None, Result, Ok, Err, unwrap_or}
 use Rattle.site_text.specs.declared.fault.ConfRefusal.{ConfRefusal}
 use Rattle.site_text.specs.Files.{file_reading}
 use Rattle.site_text.specs.Plain.{no_section}
@@ -19,10 +19,6 @@ use Rattle.records.specs.declared.file.SiteTexts.{SiteTexts}
 use Rattle.records.specs.declared.reply.CommandFile.{CommandFile}
 use Rattle.records.specs.declared.reply.CommandFile.TheVariants.{Site, Archiver, Stager, Releaser, Recycler}
 use Rattle.configuration.specs.declared.read.FileRefusal.{FileRefusal}
-
--- no text
-abbrev pub no_texts : SiteTexts
-no_texts = record { site = []; archiver = []; stager = []; releaser = []; recycler = [] }
 
 -- a command file has at most 65,536 bytes
 abbrev pub IsWithin : List ℕ → Type 0

@@ -8,7 +8,7 @@ use Rattle.std.proofs.lemmas.List.Quantifiers.{position-Some}
 use Rattle.std.proofs.lemmas.List.{length-append}
 use Rattle.site_text.specs.declared.fault.ConfFault.TheVariants.{BadValue, MissingField, Conflict, UnknownDirective}
 use Rattle.site_text.specs.declared.line.Line.{Line}
-use Rattle.site_text.specs.Fields.{Field, Read, ◌>>=◌, next_field, unless, wanted}
+use Rattle.site_text.specs.Fields.{Field, Read, ◌>>=◌, next_field, refuse_if, wanted}
 use Rattle.site_text.specs.ValueLines.{value_line}
 use Rattle.site_text.specs.Forms.{Form, values_of, read_form}
 use Rattle.site_text.specs.Kinds.{Value, Number, Text, media_field, multiple_field}
@@ -36,7 +36,7 @@ Placed libraries (Err fault) = Unit {0}
 
 -- a library that stands before has a place among them
 place_from : (libraries : List Library) (name : Field) (place : ℕ) (unfit : Bool) (found : Option ℕ) → library_place libraries name ≡ found
-    → (unless unfit BadValue >>= λ fine. wanted found Conflict) ≡ Ok place → place < length libraries
+    → (refuse_if unfit BadValue >>= λ fine. wanted found Conflict) ≡ Ok place → place < length libraries
 place_from libraries name place true found at is = absurd cc
 place_from libraries name place false None at is = absurd cc
 place_from libraries name place false (Some p) at is =

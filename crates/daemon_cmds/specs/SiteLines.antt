@@ -4,7 +4,7 @@ use Rattle.std.specs.List.{list_any}
 use Rattle.std.specs.Str.{bytes_eq}
 use Rattle.site_text.specs.declared.fault.ConfFault.{ConfFault}
 use Rattle.site_text.specs.declared.fault.ConfFault.TheVariants.{BadValue, TooMany, Conflict, Duplicate}
-use Rattle.site_text.specs.Fields.{Field, Read, ◌>>=◌, wanted, unless}
+use Rattle.site_text.specs.Fields.{Field, Read, ◌>>=◌, wanted, refuse_if}
 use Rattle.site_text.specs.Words.{named}
 use Rattle.site_text.specs.Values.{number_value, is_name}
 use Rattle.site_text.specs.Forms.{Form}
@@ -31,15 +31,15 @@ library_place libraries name = position (λ l. bytes_eq l.name name) libraries
 
 -- a name of at most 32 bytes that no library has so far
 unfoldable pub new_library : List Library → Field → Read Field
-new_library libraries name = unless (not (is_name 32 name)) BadValue >>= λ fine. unless (is_some (library_place libraries name)) Duplicate >>= λ fresh. Ok name
+new_library libraries name = refuse_if (not (is_name 32 name)) BadValue >>= λ fine. refuse_if (is_some (library_place libraries name)) Duplicate >>= λ fresh. Ok name
 
 -- a library that stands before
 unfoldable pub known_library : List Library → Field → Read ℕ
-known_library libraries name = unless (not (is_name 32 name)) BadValue >>= λ fine. wanted (library_place libraries name) Conflict
+known_library libraries name = refuse_if (not (is_name 32 name)) BadValue >>= λ fine. wanted (library_place libraries name) Conflict
 
 -- a VSN that no volume has so far
 unfoldable pub new_vsn : List Volume → Field → Read Field
-new_vsn volumes vsn = unless (not (is_name 32 vsn)) BadValue >>= λ fine. unless (list_any (λ v. bytes_eq v.vsn vsn) volumes) Duplicate >>= λ fresh. Ok vsn
+new_vsn volumes vsn = refuse_if (not (is_name 32 vsn)) BadValue >>= λ fine. refuse_if (list_any (λ v. bytes_eq v.vsn vsn) volumes) Duplicate >>= λ fresh. Ok vsn
 
 -- the low mark, if one is given, is not above this high mark
 abbrev pub low_above : Option ℕ → ℕ → Bool
@@ -52,10 +52,10 @@ above_high None low = false
 above_high (Some high) low = nat_lt high low
 
 unfoldable pub high_value : Option ℕ → Field → Read ℕ
-high_value low field = number_value 0 100 field >>= λ n. unless (low_above low n) Conflict >>= λ fine. Ok n
+high_value low field = number_value 0 100 field >>= λ n. refuse_if (low_above low n) Conflict >>= λ fine. Ok n
 
 unfoldable pub low_value : Option ℕ → Field → Read ℕ
-low_value high field = number_value 0 100 field >>= λ n. unless (above_high high n) Conflict >>= λ fine. Ok n
+low_value high field = number_value 0 100 field >>= λ n. refuse_if (above_high high n) Conflict >>= λ fine. Ok n
 
 -- ---- the directives
 

@@ -2,7 +2,7 @@
 use Rattle.std.specs.Prelude.{◌==◌, not, ℕ, List, [], ◌∷◌, ◌++◌, codes, None, Ok, Bool, ◌&&◌, nat_le, count_by, if◌then◌else◌, option_map}
 use Rattle.std.specs.List.{list_any, slice_split}
 use Rattle.site_text.specs.declared.fault.ConfFault.TheVariants.{BadValue}
-use Rattle.site_text.specs.Fields.{Field, Read, ◌>>=◌, wanted, unless}
+use Rattle.site_text.specs.Fields.{Field, Read, ◌>>=◌, wanted, refuse_if}
 use Rattle.site_text.specs.Words.{named}
 use Rattle.site_text.specs.Numbers.{number_within}
 use Rattle.site_text.specs.Forms.{Form, each_value}
@@ -54,7 +54,7 @@ completed copies = with_copy (with_copy (with_copy (with_copy copies 1) 2) 3) 4
 
 -- the order of copies that `A:B:..` says
 unfoldable pub copysel_value : Field → Read (List ℕ)
-copysel_value field = copy_numbers field >>= λ copies. unless (not (none_twice copies)) BadValue >>= λ fine. Ok (completed copies)
+copysel_value field = copy_numbers field >>= λ copies. refuse_if (not (none_twice copies)) BadValue >>= λ fine. Ok (completed copies)
 
 -- ---- the directives
 

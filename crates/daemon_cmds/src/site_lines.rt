@@ -16,7 +16,7 @@ ghost use Rattle.daemon_cmds.specs.declared.site_lines.SiteDirective.TheVariants
 use crate::site_conf::{Library, SiteReading, SiteSoFar, Volume};
 use site_text::{
     Bytes, ConfFault, Fields, LineError, find_word, is_media, is_name, multiple_value,
-    number_value, unless, value_line,
+    number_value, refuse_if, value_line,
 };
 use std::alloc::Global;
 
@@ -64,8 +64,8 @@ fn has_vsn(volumes: &[Volume], vsn: &[u8]) -> bool
 fn new_library<'a>(libraries: &[Library], name: &'a [u8]) -> Result<&'a [u8], ConfFault>
     ensures { map_read (λ n. n.now) result ≡ new_library libraries.now name.now }
 {
-    unless(!is_name(32, name), ConfFault::BadValue)?;
-    unless(
+    refuse_if(!is_name(32, name), ConfFault::BadValue)?;
+    refuse_if(
         library_place(libraries, name).is_some(),
         ConfFault::Duplicate,
     )?;
@@ -76,7 +76,7 @@ fn new_library<'a>(libraries: &[Library], name: &'a [u8]) -> Result<&'a [u8], Co
 fn known_library(libraries: &[Library], name: &[u8]) -> Result<usize, ConfFault>
     ensures { result ≡ known_library libraries.now name.now }
 {
-    unless(!is_name(32, name), ConfFault::BadValue)?;
+    refuse_if(!is_name(32, name), ConfFault::BadValue)?;
     library_place(libraries, name).ok_or(ConfFault::Conflict)
 }
 
@@ -84,8 +84,8 @@ fn known_library(libraries: &[Library], name: &[u8]) -> Result<usize, ConfFault>
 fn new_vsn<'a>(volumes: &[Volume], vsn: &'a [u8]) -> Result<&'a [u8], ConfFault>
     ensures { map_read (λ n. n.now) result ≡ new_vsn volumes.now vsn.now }
 {
-    unless(!is_name(32, vsn), ConfFault::BadValue)?;
-    unless(has_vsn(volumes, vsn), ConfFault::Duplicate)?;
+    refuse_if(!is_name(32, vsn), ConfFault::BadValue)?;
+    refuse_if(has_vsn(volumes, vsn), ConfFault::Duplicate)?;
     Ok(vsn)
 }
 
@@ -113,7 +113,7 @@ fn high_value(low: Option<u32>, field: &[u8]) -> Result<u32, ConfFault>
     ensures { result ≡ high_value low field.now }
 {
     let high = number_value(0, 100, field)?;
-    unless(low_above(low, high), ConfFault::Conflict)?;
+    refuse_if(low_above(low, high), ConfFault::Conflict)?;
     Ok(high)
 }
 
@@ -123,7 +123,7 @@ fn low_value(high: Option<u32>, field: &[u8]) -> Result<u32, ConfFault>
     ensures { result ≡ low_value high field.now }
 {
     let low = number_value(0, 100, field)?;
-    unless(above_high(high, low), ConfFault::Conflict)?;
+    refuse_if(above_high(high, low), ConfFault::Conflict)?;
     Ok(low)
 }
 

@@ -14,7 +14,7 @@ use crate::site_lines::library_place;
 use crate::stager_conf::StagerReading;
 use site_text::{
     Bytes, ConfFault, Fields, LineError, List, cut_at, find_word, number_value, read_ignored,
-    read_number_within, unless, value_line,
+    read_number_within, refuse_if, value_line,
 };
 use std::alloc::{AllocError, Global};
 
@@ -133,7 +133,7 @@ fn copysel_value(alloc: Global, field: &[u8]) -> Result<List<u8>, LineError>
     ensures { Gives (λ copies. copies) result (copysel_value field.now) }
 {
     let mut copies = copy_numbers(alloc, field)?;
-    unless(!none_twice(copies.as_slice()), ConfFault::BadValue)?;
+    refuse_if(!none_twice(copies.as_slice()), ConfFault::BadValue)?;
     complete(&mut copies)?;
     Ok(copies)
 }

@@ -27,19 +27,6 @@ use records::{Reply, SiteTexts, Step, StepKind};
 use site_state::{Prepared, Setting};
 use std::alloc::AllocError;
 
-// A copy of the texts.
-fn copy_texts(texts: &SiteTexts) -> Result<SiteTexts, AllocError>
-    ensures { IfOk result (λ copy. copy ≡ texts.now) }
-{
-    Ok(SiteTexts {
-        site: texts.site.copy()?,
-        archiver: texts.archiver.copy()?,
-        stager: texts.stager.copy()?,
-        releaser: texts.releaser.copy()?,
-        recycler: texts.recycler.copy()?,
-    })
-}
-
 impl<B: Bank, P: Drop> Engine<B, P> {
     // Takes all memory of a configuration that no rule refuses: its step is given, and its written form is in the buffer.
     fn prepare_configuration(&mut self, texts: &SiteTexts) -> Result<Prepared, ConfigurationError>
@@ -54,7 +41,7 @@ impl<B: Bank, P: Drop> Engine<B, P> {
         ensures unmoved { IsUnmoved self.old self.new }
     {
         let setting = Setting::new(self.alloc, texts)?;
-        let Ok(copy) = copy_texts(texts) else {
+        let Ok(copy) = texts.copy() else {
             return Err(ConfigurationError::NoMemory);
         };
         let step = Step {

@@ -32,6 +32,7 @@ fn write_run<B: Bank>(bank: &mut B, run: &Run, piece: &[u8]) -> Result<(), BankF
     ensures last { OnOk result (B.last_fault bank.new ≡ B.last_fault bank.old) }
 {
     let first = run.first as u64;
+    // Read, so that its range is known: the end of the bytes is below 2^63.
     let _count = run.count;
     bank.write(1, first * BLOCK, piece)
 }
@@ -87,6 +88,7 @@ fn read_run<B: Bank>(bank: &mut B, run: &Run, into: &mut [u8]) -> Result<(), Ban
         return Ok(());
     }
     let first = run.first as u64;
+    // Read, so that its range is known, as above.
     let _count = run.count;
     bank.read(1, first * BLOCK, into)
 }

@@ -40,7 +40,7 @@ pub enum ShutCause {
 /// What is handed back where a store was not opened.
 #[derive(Drop)]
 pub struct Shut<B, P> {
-    pub cause: ShutCause,
+    pub refusal: ShutCause,
     pub bank: B,
     pub patterns: P,
 }
@@ -65,14 +65,14 @@ impl<B: Bank, P: Drop> Engine<B, P> {
         ensures unchanged { IsTrue B.tells → MatchResult result (λ engine. OnlyRead (B.view bank) (B.view engine.bank)) (λ shut. OnlyRead (B.view bank) (B.view shut.bank)) }
         // The journal holds a history, or it is bad at a place.
         ensures journal { IsTrue B.tells → IfOk result (λ engine. (found : List HistoryStep) × HoldsHistory journal_bytes ((B.view bank).content 0) found) }
-        ensures bad_journal { IsTrue B.tells → IfErr result (λ shut. TellsJournal journal_bytes ((B.view bank).content 0) shut.cause) }
-        ensures fault { IfErr result (λ shut. shut.cause ≡ ShutCause.BankFault → Rose (B.faults bank) (B.faults shut.bank)) }
+        ensures bad_journal { IsTrue B.tells → IfErr result (λ shut. TellsJournal journal_bytes ((B.view bank).content 0) shut.refusal) }
+        ensures fault { IfErr result (λ shut. shut.refusal ≡ ShutCause.BankFault → Rose (B.faults bank) (B.faults shut.bank)) }
         ensures later { MatchResult result (λ engine. B.faults bank ≤ B.faults engine.bank) (λ shut. B.faults bank ≤ B.faults shut.bank) }
         ensures patterns { MatchResult result (λ engine. engine.patterns ≡ patterns) (λ shut. shut.patterns ≡ patterns) }
     {
         let Ok(payload) = Vec::with_capacity(alloc, PAYLOAD_MAX) else {
             return Err(Shut {
-                cause: ShutCause::NoMemory,
+                refusal: ShutCause::NoMemory,
                 bank,
                 patterns,
             });
@@ -90,7 +90,7 @@ impl<B: Bank, P: Drop> Engine<B, P> {
                 due: false,
             }),
             Err(cause) => Err(Shut {
-                cause,
+                refusal: cause,
                 bank,
                 patterns,
             }),

@@ -8,7 +8,6 @@ ghost use Rattle.plain_session.specs.Site.{fields_of, site_of};
 
 use crate::command_files::plain_refusal;
 use crate::contents::bytes_of;
-use crate::copies::copy_texts;
 use crate::files::file_at;
 use crate::put::{inode_for, put_made};
 use crate::rule::put_rule;
@@ -153,7 +152,7 @@ fn configure_answer(
     if let Some(reply) = configure_refusal(alloc, site, texts)? {
         return Ok(without_step(reply));
     }
-    let texts = copy_texts(texts)?;
+    let texts = texts.copy()?;
     Ok(PlainAnswer {
         reply: Reply::Done(0),
         step: Some(bare_step(alloc, moment, StepKind::Configured(texts))),

@@ -1,14 +1,14 @@
 //! What the command files of a site say, each read anew by its plain slow reader.
 
 ghost use Rattle.std.specs.Prelude.{◌≡◌, IfOk};
-ghost use Rattle.configuration.specs.Readings.{no_texts, IsWithin, AreWithin, refusal_of, blocks_of};
+ghost use Rattle.configuration.specs.Readings.{IsWithin, AreWithin, refusal_of, blocks_of};
 ghost use Rattle.plain_session.specs.CommandFiles.{IsToldOf};
 
 use archiver_cmd::plain_archiver;
 use configuration::FileRefusal;
 use daemon_cmds::{plain_recycler, plain_releaser, plain_site, plain_stager};
 use records::{CommandFile, SiteTexts};
-use site_text::{Bytes, ConfError};
+use site_text::ConfError;
 use std::alloc::{AllocError, Global};
 
 /// How many bytes a block of the cache has.
@@ -16,19 +16,6 @@ const BLOCK_BYTES: u64 = 4096;
 
 /// How many blocks the cache has where site.conf is refused: 64 MiB.
 const DEFAULT_BLOCKS: u32 = 16_384;
-
-/// Five empty texts.
-pub fn no_texts(alloc: Global) -> SiteTexts
-    ensures { result ≡ no_texts }
-{
-    SiteTexts {
-        site: Bytes::new(alloc),
-        archiver: Bytes::new(alloc),
-        stager: Bytes::new(alloc),
-        releaser: Bytes::new(alloc),
-        recycler: Bytes::new(alloc),
-    }
-}
 
 // What is told of a file that was not read: its first wrong line. Err is want of memory.
 fn unread(file: CommandFile, error: ConfError) -> Result<Option<FileRefusal>, AllocError>

@@ -1,8 +1,8 @@
-//! Copies of what a site keeps of a file, and of its command files.
+//! Copies of what a site keeps of a file.
 
 ghost use Rattle.std.specs.Prelude.{◌≡◌, IfOk};
 
-use records::{CopyRec, CopySlot, CopySlots, FileRec, Run, SiteTexts};
+use records::{CopyRec, CopySlot, CopySlots, FileRec, Run};
 use site_text::List;
 use std::alloc::{AllocError, Global};
 
@@ -63,18 +63,5 @@ pub fn copy_file(alloc: Global, file: &FileRec) -> Result<FileRec, AllocError>
         stage: file.stage,
         runs: copy_runs(alloc, &file.runs)?,
         copies: copy_slots(alloc, &file.copies)?,
-    })
-}
-
-/// A copy of the five texts of a site.
-pub fn copy_texts(texts: &SiteTexts) -> Result<SiteTexts, AllocError>
-    ensures { IfOk result (λ copy. copy ≡ texts.now) }
-{
-    Ok(SiteTexts {
-        site: texts.site.copy()?,
-        archiver: texts.archiver.copy()?,
-        stager: texts.stager.copy()?,
-        releaser: texts.releaser.copy()?,
-        recycler: texts.recycler.copy()?,
     })
 }

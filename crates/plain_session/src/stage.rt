@@ -8,8 +8,6 @@ ghost use Rattle.session.specs.Machine.{event_tells, machine_tells};
 ghost use Rattle.session.specs.Outcomes.{journal_bytes, stage_of};
 ghost use Rattle.plain_session.specs.Stage.{ShowsStage, moved_to, Tells};
 
-use crate::command_files::no_texts;
-use crate::copies::copy_texts;
 use crate::site::PlainSite;
 use crate::world::{PlainWorld, moment_of, plain_turn};
 use desk::read_line;
@@ -33,7 +31,7 @@ pub fn fresh(alloc: Global) -> PlainStage
                 files: Vec::new(alloc),
                 next_inode: 1,
                 moment: 0,
-                texts: no_texts(alloc),
+                texts: SiteTexts::empty(alloc),
                 contents: Vec::new(alloc),
             },
             journal: 0,
@@ -69,7 +67,7 @@ fn configure_told(
     requires { (s : Stage) × ShowsStage stage.old s }
     ensures { (s : Stage) → ShowsStage stage.old s → IfOk result (λ reply. Tells (event_tells journal_bytes s (Configure texts.now)) reply stage.new) }
 {
-    let texts = copy_texts(texts)?;
+    let texts = texts.copy()?;
     event_told(alloc, stage, &Event::Configure { texts })
 }
 

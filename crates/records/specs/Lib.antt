@@ -5,5 +5,6 @@ pub mod Lengths
 pub mod Paths
 pub mod Ranges
 pub mod Reading
+pub mod Texts
 pub mod Writing
 pub mod Written

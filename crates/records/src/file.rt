@@ -1,6 +1,10 @@
 //! Files, copies and volumes, without any byte of a file's content.
 
+ghost use Rattle.std.specs.Prelude.{◌≡◌, IfOk};
+ghost use Rattle.records.specs.Texts.{no_texts};
+
 use site_text::{Bytes, List};
+use std::alloc::{AllocError, Global};
 
 /// When the blocks of a file may be released.
 #[derive(Clone, Copy, Debug, PartialEq, Eq)]
@@ -139,4 +143,32 @@ pub struct SiteTexts {
     pub stager: Bytes,
     pub releaser: Bytes,
     pub recycler: Bytes,
+}
+
+impl SiteTexts {
+    /// Five empty texts. It takes no memory.
+    pub fn empty(alloc: Global) -> Self
+        ensures { result ≡ no_texts }
+    {
+        SiteTexts {
+            site: Bytes::new(alloc),
+            archiver: Bytes::new(alloc),
+            stager: Bytes::new(alloc),
+            releaser: Bytes::new(alloc),
+            recycler: Bytes::new(alloc),
+        }
+    }
+
+    /// The same texts again.
+    pub fn copy(&self) -> Result<SiteTexts, AllocError>
+        ensures { IfOk result (λ copy. copy ≡ self.now) }
+    {
+        Ok(SiteTexts {
+            site: self.site.copy()?,
+            archiver: self.archiver.copy()?,
+            stager: self.stager.copy()?,
+            releaser: self.releaser.copy()?,
+            recycler: self.recycler.copy()?,
+        })
+    }
 }

@@ -53,6 +53,10 @@ fn is_synced(rt: &HostRuntime, folder: &str) -> bool {
 
 // Opens the store in the folder `bank` of a folder; both are made if they are not there.
 fn open_bank(rt: &HostRuntime, folder: &str) -> Result<FileBank<HostRuntime>, Refusal> {
+    // Behind no name at all the store would stand at the root.
+    if folder.is_empty() {
+        return Err(Refusal::Failed);
+    }
     let path = format!(in rt.alloc(); "{folder}/bank")?;
     if fs::create_dir_all(rt, path.as_str()).is_err() || !is_synced(rt, folder) {
         return Err(Refusal::Failed);

@@ -10,7 +10,7 @@ use Rattle.records.specs.declared.reply.Reply.{Reply}
 use Rattle.records.specs.declared.reply.Reply.TheVariants.{Line, At}
 use Rattle.desk.specs.Texts.{text_of}
 use Rattle.configuration.specs.FolderTexts.{texts_in}
-use Rattle.configuration.specs.Readings.{no_texts}
+use Rattle.records.specs.Texts.{no_texts}
 use Rattle.site_history.specs.Answers.{Answer}
 use Rattle.site_history.specs.Worlds.{World, at, moment_of, answer_in, with_step, IsReply}
 use Rattle.session.specs.Asking.{Request}

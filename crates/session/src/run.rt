@@ -177,11 +177,11 @@ pub fn run_lines<B: Bank, C: Clock, F: Folder, P: Patterns, I: Source, O: Sink>(
         Ok(engine) => engine,
         Err(shut) => {
             let Shut {
-                cause,
+                refusal,
                 bank,
                 patterns,
             } = shut;
-            let status = refuse(alloc, cause, output);
+            let status = refuse(alloc, refusal, output);
             return Outcome {
                 status,
                 marks: List::new(alloc),

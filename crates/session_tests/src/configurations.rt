@@ -1,8 +1,8 @@
 //! A run that is asked to configure writes what the plain program writes.
 
 use crate::runs::expect_with;
-use crate::texts::{no_texts, texts_of};
-use records::CommandFile;
+use crate::texts::texts_of;
+use records::{CommandFile, SiteTexts};
 use std::test::Fail;
 
 /// A cache of 1 MiB, and a library with two volumes.
@@ -45,7 +45,7 @@ fn no_file_gives_the_default_site(rt: HostRuntime) -> Result<(), Fail> {
     expect_with(
         &rt,
         alloc,
-        &no_texts(alloc),
+        &SiteTexts::empty(alloc),
         b"configure\nmake /a u g 2M 0\n",
         b"ok 0\nok 1\n",
     )

@@ -1,6 +1,6 @@
 //! What is left of a site after a crash at each moment, and after each call of the store failed once, as the plain program has it.
 
-use crate::texts::{folder_of, no_texts, texts_of};
+use crate::texts::{folder_of, texts_of};
 use bank::{Bank, BankCall, FailAt, MemoryBank};
 use outside::{LiteralPatterns, MemoryClock, MemorySink, MemorySource};
 use plain_session::plain_output;
@@ -103,7 +103,7 @@ fn plain_reads(alloc: Global) -> Result<Vec<Bytes>, Fail> {
 
 // Reads what a store holds. No command file is there any more.
 fn read_again(alloc: Global, bank: MemoryBank) -> Result<Bytes, Fail> {
-    Ok(run(alloc, bank, &no_texts(alloc), READS)?.written)
+    Ok(run(alloc, bank, &SiteTexts::empty(alloc), READS)?.written)
 }
 
 // Reads what a crash left.

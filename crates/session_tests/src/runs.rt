@@ -1,6 +1,6 @@
 //! A run over memory writes what the plain program writes.
 
-use crate::texts::{folder_of, no_texts};
+use crate::texts::folder_of;
 use bank::MemoryBank;
 use outside::{LiteralPatterns, MemoryClock, MemorySink, MemorySource};
 use plain_session::plain_output;
@@ -41,7 +41,7 @@ pub fn expect_with(
 
 // The same without command files.
 fn expect(rt: &impl Abort, alloc: Global, text: &[u8], answers: &[u8]) -> Result<(), Fail> {
-    expect_with(rt, alloc, &no_texts(alloc), text, answers)
+    expect_with(rt, alloc, &SiteTexts::empty(alloc), text, answers)
 }
 
 #[test]

@@ -5,20 +5,9 @@ use records::{CommandFile, SiteTexts};
 use site_text::{Bytes, List};
 use std::alloc::{AllocError, Global};
 
-/// Five empty texts.
-pub fn no_texts(alloc: Global) -> SiteTexts {
-    SiteTexts {
-        site: Bytes::new(alloc),
-        archiver: Bytes::new(alloc),
-        stager: Bytes::new(alloc),
-        releaser: Bytes::new(alloc),
-        recycler: Bytes::new(alloc),
-    }
-}
-
 /// The texts of these files. The others are empty.
 pub fn texts_of(alloc: Global, files: &[(CommandFile, &[u8])]) -> Result<SiteTexts, AllocError> {
-    let mut texts = no_texts(alloc);
+    let mut texts = SiteTexts::empty(alloc);
     for (file, text) in files {
         let text = Bytes::from_slice(alloc, text)?;
         match file {

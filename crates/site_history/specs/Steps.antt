@@ -5,13 +5,12 @@ use Rattle.std.specs.Option.{option_map_or}
 use Rattle.records.specs.declared.file.FileRec.{FileRec}
 use Rattle.records.specs.declared.file.Run.{Run}
 use Rattle.records.specs.declared.file.SiteTexts.{SiteTexts}
-use Rattle.records.specs.declared.file.CopySlots.{CopySlots}
-use Rattle.records.specs.declared.file.CopySlot.TheVariants.{Empty}
 use Rattle.records.specs.declared.file.ReleaseKind.{ReleaseKind}
 use Rattle.records.specs.declared.file.StageKind.{StageKind}
 use Rattle.records.specs.declared.step.Step.{Step}
 use Rattle.records.specs.declared.step.StepKind.{StepKind}
 use Rattle.records.specs.declared.step.StepKind.TheVariants.{Configured, Put, Accessed, Removed}
+use Rattle.records.specs.Copies.{no_copies}
 use Rattle.records.specs.Paths.{is_legal_path, is_legal_name}
 use Rattle.records.specs.Written.{InRange}
 use Rattle.configuration.specs.Readings.{AreWithin, refusal_of}
@@ -32,10 +31,6 @@ pub record PutOf : Type 0 where
   pub group : List ℕ
   pub length : ℕ
   pub runs : List Run
-
--- no copy
-abbrev pub no_copies : CopySlots
-no_copies = record { first = Empty; second = Empty; third = Empty; fourth = Empty }
 
 -- The file that a put leaves: a new one, or one whose bytes, owner and group are replaced. It is whole, and its three
 -- moments are that of the put. A replaced file keeps its attributes and its copies, which are those of an earlier

@@ -21,7 +21,7 @@ IsOfNoStep fields payload = (step : Step) → written step ≡ payload → IsLeg
 abbrev pub IsRead : Fields → List ℕ → Option Prepared → Type 0
 IsRead fields payload read = MatchOption read (IsOfNoStep fields payload) (λ prepared. IsLegal fields prepared.step × (payload ≡ written prepared.step))
 
--- these payloads are the written forms of a history, and the files are what it leaves
+-- these payloads are the written forms of a history, and the site is what it leaves
 pub record Replays (site : SiteState) (payloads : List (List ℕ)) : Type 0 where
   pub steps : List HistoryStep
   pub history : IsHistory steps

@@ -43,6 +43,7 @@ impl SiteState {
         ensures small { IfOk result (λ runs. AllByRecursion IsRun runs) }
         ensures maximal { IfOk result (λ runs. AreMaximal runs) }
     {
+        // Asked, so that its range is known: each run has numbers of four bytes.
         let _blocks = self.space.blocks();
         match self.space.lowest(blocks_needed(size), &[]) {
             Ok(runs) => Ok(runs),

@@ -3,7 +3,6 @@
 ghost use Rattle.std.specs.Prelude.{◌≡◌, ◌+◌, ◌<◌, ◌≤◌, IfOk, IfErr, IfSome, All};
 ghost use Rattle.journal.specs.Records.{IsPayload};
 ghost use Rattle.records.specs.Written.{InRange};
-ghost use Rattle.configuration.specs.Readings.{no_texts};
 ghost use Rattle.site_history.specs.Site.{Fields, first_fields};
 ghost use Rattle.site_state.specs.Replays.{IsRead, Replays, TellsPayloads};
 ghost use Rattle.site_state.specs.Room.{IsPrepared};
@@ -29,24 +28,11 @@ pub enum ReplayRefusal {
 /// The bytes of a record before its payload.
 const HEAD: u64 = 5;
 
-// No text.
-fn empty_texts(alloc: Global) -> SiteTexts
-    ensures { result ≡ no_texts }
-{
-    SiteTexts {
-        site: Bytes::new(alloc),
-        archiver: Bytes::new(alloc),
-        stager: Bytes::new(alloc),
-        releaser: Bytes::new(alloc),
-        recycler: Bytes::new(alloc),
-    }
-}
-
 // The site of no texts, which has no file.
 fn first_site(alloc: Global) -> Result<SiteState, AllocError>
     ensures { IfOk result (λ site. Keeps site first_fields) }
 {
-    match Setting::new(alloc, &empty_texts(alloc)) {
+    match Setting::new(alloc, &SiteTexts::empty(alloc)) {
         Ok(setting) => Ok(SiteState {
             files: Files::new(alloc),
             next_inode: 1,
@@ -76,7 +62,7 @@ fn next_step(
     }
 }
 
-/// The files that the steps of these payloads leave, from the site of no texts on. The first payload of no step that may come
+/// The site that the steps of these payloads leave, from that of no texts on. The first payload of no step that may come
 /// is told by its place in a journal.
 pub fn replay(alloc: Global, payloads: &[Bytes]) -> Result<SiteState, ReplayRefusal>
     requires { All IsPayload payloads.now }

@@ -4,7 +4,7 @@ ghost use Rattle.std.specs.Prelude.{◌≡◌, ◌+◌, ◌<◌, ◌^◌, None, 
 ghost use Rattle.site_history.specs.Steps.{stored_file};
 ghost use Rattle.site_state.specs.Fields.{put_of};
 
-use records::{CopySlot, CopySlots, FileRec, ReleaseKind, Run, StageKind};
+use records::{CopySlots, FileRec, ReleaseKind, Run, StageKind};
 use site_text::{Bytes, List};
 
 /// The fields of a put's step.
@@ -46,12 +46,7 @@ pub fn new_file(moment: u64, put: PutFields) -> FileRec
         partial: 0,
         stage: StageKind::Default,
         runs,
-        copies: CopySlots {
-            first: CopySlot::Empty,
-            second: CopySlot::Empty,
-            third: CopySlot::Empty,
-            fourth: CopySlot::Empty,
-        },
+        copies: CopySlots::empty(),
     }
 }
 

@@ -67,9 +67,9 @@ put_field (b ∷ bs) fields = (b ∷ bs) ∷ fields
 -- ---- tests
 
 -- where the test holds, this fault
-abbrev pub unless : Bool → ConfFault → Read (Unit {0})
-unless true fault = Err fault
-unless false fault = Ok tt
+abbrev pub refuse_if : Bool → ConfFault → Read (Unit {0})
+refuse_if true fault = Err fault
+refuse_if false fault = Ok tt
 
 -- where there is no value, this fault
 abbrev pub wanted : {A : Type 0} → Option A → ConfFault → Read A

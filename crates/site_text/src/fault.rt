@@ -5,7 +5,8 @@ ghost use Rattle.site_text.specs.Faults.{fault_text, refused_at};
 
 use std::alloc::AllocError;
 
-/// What is wrong with a line. Of two faults at one field the one that stands first here is told.
+/// What is wrong with a line. Of two faults at one field the one that stands first here is told, but for a mark of site.conf, whose
+/// form and range are looked at before the other mark.
 #[derive(Clone, Copy, Debug, PartialEq, Eq)]
 pub enum ConfFault {
     /// A name, an option or a criterion is none of those that may stand there.

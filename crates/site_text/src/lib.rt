@@ -38,4 +38,4 @@ pub use values::{
     weight_value,
 };
 pub use weights::read_weight;
-pub use words::{find_word, is_option, no_option, option_named, unless, word_value};
+pub use words::{find_word, is_option, no_option, option_named, refuse_if, word_value};

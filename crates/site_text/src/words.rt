@@ -1,7 +1,7 @@
 //! Words and what they stand for.
 
 ghost use Rattle.std.specs.Prelude.{◌≡◌, map};
-ghost use Rattle.site_text.specs.Fields.{unless};
+ghost use Rattle.site_text.specs.Fields.{refuse_if};
 ghost use Rattle.site_text.specs.Words.{named, is_option, no_option, option_named, word_value};
 
 use crate::fault::ConfFault;
@@ -58,8 +58,8 @@ pub fn word_value<D: Copy>(table: &[(&[u8], D)], field: &[u8]) -> Result<D, Conf
 }
 
 /// Where the test holds, this fault.
-pub fn unless(test: bool, fault: ConfFault) -> Result<(), ConfFault>
-    ensures { result ≡ unless test fault }
+pub fn refuse_if(test: bool, fault: ConfFault) -> Result<(), ConfFault>
+    ensures { result ≡ refuse_if test fault }
 {
     if test { Err(fault) } else { Ok(()) }
 }

@@ -45,15 +45,9 @@ struct Left {
 
 // A configuration by this text of site.conf.
 fn configuration_of(alloc: Global, site: &[u8]) -> Result<Event, AllocError> {
-    Ok(Event::Configure {
-        texts: SiteTexts {
-            site: Bytes::from_slice(alloc, site)?,
-            archiver: Bytes::new(alloc),
-            stager: Bytes::new(alloc),
-            releaser: Bytes::new(alloc),
-            recycler: Bytes::new(alloc),
-        },
-    })
+    let mut texts = SiteTexts::empty(alloc);
+    texts.site = Bytes::from_slice(alloc, site)?;
+    Ok(Event::Configure { texts })
 }
 
 // The event of a row.

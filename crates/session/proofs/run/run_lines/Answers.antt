@@ -15,12 +15,12 @@ no_tells t = absurd (let e : false ≡ true = t in cc)
 -- the store was shut
 pub returns-in-Err-clause-outcome : goal.returns-in-Err-clause-outcome
 returns-in-Err-clause-outcome g c = λ told tells before settled.
-    inr (shut_outcome _ _ g.B.Bank.tells _ _ c.in-Err.shut.cause _ c.refuse-status.ensures.status c.in-Err.ensures.fault c.in-Err.ensures.bad_journal c.refuse-status.ensures.bytes
+    inr (shut_outcome _ _ g.B.Bank.tells _ _ c.in-Err.shut.refusal _ c.refuse-status.ensures.status c.in-Err.ensures.fault c.in-Err.ensures.bad_journal c.refuse-status.ensures.bytes
     told before _ tells c.in-Err.ensures.unchanged settled refl refl refl refl c.new.ensures)
 
 pub returns-in-Err-clause-status : goal.returns-in-Err-clause-status
 returns-in-Err-clause-status g c =
-    shut_status _ _ g.B.Bank.tells (g.B.Bank.view c.args.bank) (g.B.Bank.view c.in-Err.shut.bank) c.in-Err.shut.cause _ c.refuse-status.ensures.status c.in-Err.ensures.fault c.in-Err.ensures.bad_journal c.refuse-status.ensures.bytes _
+    shut_status _ _ g.B.Bank.tells (g.B.Bank.view c.args.bank) (g.B.Bank.view c.in-Err.shut.bank) c.in-Err.shut.refusal _ c.refuse-status.ensures.status c.in-Err.ensures.fault c.in-Err.ensures.bad_journal c.refuse-status.ensures.bytes _
 
 pub returns-in-Err-clause-good : goal.returns-in-Err-clause-good
 returns-in-Err-clause-good g c = λ tells before settled. never_bad g.B.Bank.tells (g.B.Bank.view c.args.bank) c.args.budget _ _ _ before (returns-in-Err-clause-status g c) tells settled

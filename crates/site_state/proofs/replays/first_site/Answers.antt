@@ -3,7 +3,8 @@ use Rattle.records.specs.declared.file.SiteTexts.{SiteTexts}
 use Rattle.configuration.specs.declared.read.ConfigurationError.{ConfigurationError}
 use Rattle.configuration.specs.declared.read.ConfigurationError.TheVariants.{Refused}
 use Rattle.configuration.specs.declared.read.FileRefusal.{FileRefusal}
-use Rattle.configuration.specs.Readings.{no_texts, refusal_of}
+use Rattle.configuration.specs.Readings.{refusal_of}
+use Rattle.records.specs.Texts.{no_texts}
 use Rattle.configuration.specs.Says.{TellsRefusal}
 use Rattle.configuration.proofs.Laws.{no_texts-read}
 use Rattle.site_state.proofs.replays.first_site.Goals as goal
@@ -16,4 +17,4 @@ never_refused texts error refusal none is tells =
     cc
 
 pub unreachable-requires : goal.unreachable-requires
-unreachable-requires c = never_refused c.empty_texts.result c.in-Err-Refused.field-0 _ c.empty_texts.ensures c.in-Err-Refused.field-0-is c.in-Err-Refused.ensures.refused
+unreachable-requires c = never_refused c.empty.result c.in-Err-Refused.field-0 _ c.empty.ensures c.in-Err-Refused.field-0-is c.in-Err-Refused.ensures.refused
