@@ -27,7 +27,7 @@ fn shown(alloc: Global, found: &[Line]) -> Result<Bytes, AllocError> {
 
 #[test]
 fn cuts_lines(rt: HostRuntime) -> Result<(), Fail> {
-    let table: [(&[u8], &[u8]); 9] = [
+    let table: [(&[u8], &[u8]); 10] = [
         (b"", b""),
         (b"a b\n\tc\r\n \n\nd", b"1:a|b|;2:c|;5:d|;"),
         (b"a # b \\\nc #", b"1:a|;2:c|;"),
@@ -37,6 +37,10 @@ fn cuts_lines(rt: HostRuntime) -> Result<(), Fail> {
         (b"\\\n\\\nx", b"1:x|;"),
         (b"a\\b\\ \nc", b"1:a\\b\\|;2:c|;"),
         (b"a\r", b"1:a\r|;"),
+        (
+            b"# \xc3\xbc\n\xc3\xa9\t\xe2\x82\xac\t \xf0\x9f\x8e\xac # \xc3\xa9\nb",
+            b"2:\xc3\xa9|\xe2\x82\xac|\xf0\x9f\x8e\xac|;3:b|;",
+        ),
     ];
     for (text, want) in table {
         if text.len() <= 65536 {
@@ -66,7 +70,7 @@ fn refuses_texts(rt: HostRuntime) {
 
 #[test]
 fn reads_fields(rt: HostRuntime) {
-    let ages: [(&[u8], Result<u64, TextRefusal>); 12] = [
+    let ages: [(&[u8], Result<u64, TextRefusal>); 16] = [
         (b"0", Ok(0)),
         (b"1h30m", Ok(5400)),
         (b"90", Ok(90)),
@@ -76,6 +80,10 @@ fn reads_fields(rt: HostRuntime) {
         (b"000000000010s", Ok(10)),
         (b"1099511627775", Err(TextRefusal::BadAge)),
         (b"999999999999w", Err(TextRefusal::Overflow)),
+        (b"1817975w4d2175s", Ok(1_099_511_627_775)),
+        (b"1817975w4d2176s", Err(TextRefusal::Overflow)),
+        (b"999999999999s99511627776", Ok(1_099_511_627_775)),
+        (b"999999999999s99511627777", Err(TextRefusal::Overflow)),
         (b"", Err(TextRefusal::BadAge)),
         (b"1h m", Err(TextRefusal::BadAge)),
         (b"h", Err(TextRefusal::BadAge)),
@@ -83,7 +91,7 @@ fn reads_fields(rt: HostRuntime) {
     for (field, want) in ages {
         assert_eq!(rt; read_age(field), want);
     }
-    let sizes: [(&[u8], Result<u64, TextRefusal>); 9] = [
+    let sizes: [(&[u8], Result<u64, TextRefusal>); 12] = [
         (b"0", Ok(0)),
         (b"10k", Ok(10_240)),
         (b"10K", Ok(10_240)),
@@ -91,6 +99,9 @@ fn reads_fields(rt: HostRuntime) {
         (b"1G", Ok(1_073_741_824)),
         (b"1023t", Ok(1_124_800_395_214_848)),
         (b"1024T", Err(TextRefusal::Overflow)),
+        (b"000000000000001", Ok(1)),
+        (b"0000000000000001", Err(TextRefusal::BadSize)),
+        (b"1234567890123456k", Err(TextRefusal::BadSize)),
         (b"1kk", Err(TextRefusal::BadSize)),
         (b"k", Err(TextRefusal::BadSize)),
     ];

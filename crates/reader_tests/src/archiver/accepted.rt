@@ -65,7 +65,7 @@ const LINES: [Said; 15] = [
 ];
 
 /// Sections.
-const SECTIONS: [Said; 11] = [
+const SECTIONS: [Said; 13] = [
     (
         b"params\nallsets -archmax 1M -fillvsns -join path -sort none -reserve set -reserve fs -ovflmin 1G\nendparams",
         b"|s samfs1 1@240|p allsets Archmax(1048576) Fillvsns Join(Path) Sort(Sort { key: None, reverse: false }) \
@@ -109,6 +109,14 @@ const SECTIONS: [Said; 11] = [
         b"a .\nvsnpools\n-p li A B\nq s9 C\n-p li D\nendvsnpools\nvsns\na.1 li -pool -p -pool q E\nallsets.2 s9 -pool q -frob\nendvsns",
         b"|a 1 0 Global . Default Default|s a 1@240|s samfs1 1@240\
         |v a.1 li:A@3 li:B@3 li:D@5 li:E@8|v allsets.2 s9:C@4 s9:-frob@9|V",
+    ),
+    (
+        b"vsnpools\np lj C\nendvsnpools\nvsns\nallsets li -pool p\nendvsns",
+        b"|s samfs1 1@240|v allsets|V",
+    ),
+    (
+        b"vsnpools\np lj C\nendvsnpools\nvsns\nsamfs1.1 li -pool p X -pool p\nallsets lj -pool p\nendvsns",
+        b"|s samfs1 1@240|v samfs1.1 li:X@5|v allsets lj:C@2|V",
     ),
     (
         b"vsns\nallsets li x = y \\\nz\nendvsns\nvsns\nallsets.1 lt a\nallsets li v\nendvsns",

@@ -136,20 +136,25 @@ fn with_parts(alloc: Global, parts: u32, end: &[u8]) -> Result<Bytes, AllocError
     Ok(text)
 }
 
-/// Ends behind parts of 64 file systems, and the refusal if there is one.
-const SETS: [(&[u8], Refusal); 6] = [
-    (b"", None),
-    (b"f3 .\n2\nfs = f60\n2\nfs = g", None),
-    (b"b", Some((129, ConfFault::TooMany))),
-    (b"allsets", Some((129, ConfFault::TooMany))),
-    (b"fs = g\n5", Some((130, ConfFault::TooMany))),
-    (b"fs = samfs1\n1", Some((130, ConfFault::TooMany))),
+/// How many file systems have parts, the end behind them, and the refusal if there is one.
+const SETS: [(u32, &[u8], Refusal); 11] = [
+    (64, b"", None),
+    (64, b"f3 .\n2\nfs = f60\n2\nfs = g", None),
+    (64, b"b", Some((129, ConfFault::TooMany))),
+    (64, b"allsets", Some((129, ConfFault::TooMany))),
+    (64, b"fs = g\n5", Some((130, ConfFault::TooMany))),
+    (64, b"fs = samfs1\n1", Some((130, ConfFault::TooMany))),
+    (64, b"fs = no_archive\n1", Some((130, ConfFault::TooMany))),
+    (63, b"fs = no_archive\n1", Some((128, ConfFault::Conflict))),
+    (64, b"no_archive tmp", Some((129, ConfFault::TooMany))),
+    (63, b"no_archive tmp\nno_archive x", None),
+    (63, b"no_archive tmp\nb .", Some((128, ConfFault::TooMany))),
 ];
 
 #[test]
 fn counts_sets(rt: HostRuntime) -> Result<(), Fail> {
-    for (end, want) in SETS {
-        let text = with_parts(rt.alloc(), 64, end)?;
+    for (parts, end, want) in SETS {
+        let text = with_parts(rt.alloc(), parts, end)?;
         assert_eq!(rt; refusal(rt.alloc(), text.as_slice())?, want);
         assert_eq!(rt; plain_refusal(rt.alloc(), text.as_slice())?, want);
     }

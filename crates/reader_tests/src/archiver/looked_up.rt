@@ -2,7 +2,8 @@
 
 use super::shown::both_shown;
 use archiver_cmd::{
-    ArchiverConf, Owner, Params, Reserve, Sort, SortKey, plain_archiver, read_archiver,
+    ArchiverConf, Join, Owner, Params, Reserve, Sort, SortKey, Unarchage, plain_archiver,
+    read_archiver,
 };
 use site_text::{Bytes, List};
 use std::alloc::{AllocError, Global};
@@ -15,12 +16,23 @@ const TEXT: &[u8] =
     rushes.2 -reserve user -rsort size -reserve fs\nfinals.1 -startage 0\nendparams\nvsnpools\ndaily li ^DAY\nkeep li ^FIN\nkeep lt ^OLD\n\
     endvsnpools\nvsns\nrushes.1 li -pool daily\nfinals.1 li -pool keep\nallsets.2 li X\nallsets lt Y\nrushes.1 li ^Z\nendvsns\n";
 
+/// Its options stand at each of the three names, its volumes only at some.
+const LEVELS: &[u8] = b"a .\nb x\nparams\n\
+    allsets -fillvsns -join path -ovflmin 1G -startsize 1M -unarchage modify -recycle_hwm 90 \
+    -recycle_mingain 50 -recycle_vsncount 3 -recycle_dataquantity 2G -reserve set -reserve fs\n\
+    allsets.1 -join none -ovflmin 2G -startsize 2M -unarchage access -recycle_hwm 80 \
+    -recycle_mingain 40 -recycle_vsncount 4 -recycle_dataquantity 1G -recycle_ignore\n\
+    a.1 -join path -ovflmin 0 -startsize 3M -unarchage modify -recycle_hwm 70 \
+    -recycle_mingain 0 -recycle_vsncount 0 -recycle_dataquantity 1K -archmax 1M -archmax 2M -sort path\n\
+    a.1 -rsort size\na.2 -recycle_ignore -reserve group -recycle_hwm 100 -archmax 4M\na.2 -archmax 3M\nendparams\n\
+    vsnpools\np lj C\nendvsnpools\nvsns\na.1 li X\nallsets.2 li Z\na.2 li -pool p\nendvsns\n";
+
 /// What the reader and then the plain one read.
-fn confs(alloc: Global) -> Result<List<ArchiverConf>, Fail> {
+fn confs(alloc: Global, text: &[u8]) -> Result<List<ArchiverConf>, Fail> {
     let mut both = List::new(alloc);
-    if TEXT.len() <= 65536 {
-        both.push(read_archiver(alloc, TEXT, b"film1")?)?;
-        both.push(plain_archiver(alloc, TEXT, b"film1")?)?;
+    if text.len() <= 65536 {
+        both.push(read_archiver(alloc, text, b"film1")?)?;
+        both.push(plain_archiver(alloc, text, b"film1")?)?;
     }
     Ok(both)
 }
@@ -48,7 +60,7 @@ fn sets_are_in_order(rt: HostRuntime) -> Result<(), Fail> {
         (b"small", 1),
         (b"film1", 1),
     ];
-    for conf in confs(rt.alloc())?.as_slice() {
+    for conf in confs(rt.alloc(), TEXT)?.as_slice() {
         assert_eq!(rt; conf.sets().len(), 6);
         assert_eq!(rt; conf.assignments().len(), 5);
         assert!(rt; conf.has_vsns());
@@ -73,9 +85,93 @@ const fn sort_by(key: SortKey, reverse: bool) -> Option<Sort> {
     Some(Sort { key, reverse })
 }
 
+const SET_ALONE: Option<Reserve> = Some(Reserve {
+    set: true,
+    owner: None,
+    fs: false,
+});
+
+/// What `allsets` gives.
+const BY_ALL: Params = Params {
+    archmax: None,
+    fillvsns: true,
+    join: Some(Join::Path),
+    sort: None,
+    reserve: Some(Reserve {
+        set: true,
+        owner: None,
+        fs: true,
+    }),
+    ovflmin: Some(1_073_741_824),
+    startage: None,
+    startcount: None,
+    startsize: Some(1_048_576),
+    unarchage: Some(Unarchage::Modify),
+    recycle_hwm: Some(90),
+    recycle_mingain: Some(50),
+    recycle_vsncount: Some(3),
+    recycle_dataquantity: Some(2_147_483_648),
+    recycle_ignore: false,
+};
+
+/// What `allsets.1` gives, and `allsets` beside it.
+const BY_COPY: Params = Params {
+    join: Some(Join::None),
+    ovflmin: Some(2_147_483_648),
+    startsize: Some(2_097_152),
+    unarchage: Some(Unarchage::Access),
+    recycle_hwm: Some(80),
+    recycle_mingain: Some(40),
+    recycle_vsncount: Some(4),
+    recycle_dataquantity: Some(1_073_741_824),
+    recycle_ignore: true,
+    ..BY_ALL
+};
+
+/// What `a.1` gives, and the other two beside it.
+const BY_SET: Params = Params {
+    archmax: Some(2_097_152),
+    join: Some(Join::Path),
+    sort: Some(Sort {
+        key: SortKey::Size,
+        reverse: true,
+    }),
+    ovflmin: Some(0),
+    startsize: Some(3_145_728),
+    unarchage: Some(Unarchage::Modify),
+    recycle_hwm: Some(70),
+    recycle_mingain: Some(0),
+    recycle_vsncount: Some(0),
+    recycle_dataquantity: Some(1024),
+    ..BY_COPY
+};
+
+/// What `a.2` gives, and `allsets` beside it.
+const BY_OTHER_COPY: Params = Params {
+    archmax: Some(3_145_728),
+    reserve: Some(Reserve {
+        set: false,
+        owner: Some(Owner::Group),
+        fs: false,
+    }),
+    recycle_hwm: Some(100),
+    recycle_ignore: true,
+    ..BY_ALL
+};
+
+/// The options for copies of sets.
+const LEVELS_SAY: [(u32, u8, Params); 6] = [
+    (0, 1, BY_SET),
+    (0, 2, BY_OTHER_COPY),
+    (0, 3, BY_ALL),
+    (1, 1, BY_COPY),
+    (1, 2, BY_ALL),
+    (2, 1, BY_COPY),
+];
+
 #[test]
 fn options_are_looked_up(rt: HostRuntime) -> Result<(), Fail> {
-    for conf in confs(rt.alloc())?.as_slice() {
+    for conf in confs(rt.alloc(), TEXT)?.as_slice() {
         let params = params_of(conf, 1, 1).ok_or("no set")?;
         assert_eq!(rt; params.archmax, Some(1_048_576));
         assert_eq!(rt; params.startcount, Some(2));
@@ -91,6 +187,13 @@ fn options_are_looked_up(rt: HostRuntime) -> Result<(), Fail> {
         assert_eq!(rt; params.reserve, Some(reserve));
         let params = params_of(conf, 2, 1).ok_or("no set")?;
         assert_eq!(rt; params.startage, Some(0));
+        assert_eq!(rt; params.reserve, SET_ALONE);
+        assert!(rt; !params.fillvsns && !params.recycle_ignore);
+    }
+    for (set, copy, want) in LEVELS_SAY {
+        for conf in confs(rt.alloc(), LEVELS)?.as_slice() {
+            assert_eq!(rt; params_of(conf, set, copy), Some(want));
+        }
     }
     Ok(())
 }
@@ -111,15 +214,21 @@ fn exprs_of(alloc: Global, conf: &ArchiverConf, set: u32, copy: u8) -> Result<By
 
 #[test]
 fn expressions_are_looked_up(rt: HostRuntime) -> Result<(), Fail> {
-    let table: [(u32, u8, &[u8]); 5] = [
-        (1, 1, b"|25 ^DAY|34 ^Z"),
-        (1, 2, b"|32 X"),
-        (2, 1, b"|26 ^FIN"),
-        (2, 3, b"|33 Y"),
-        (5, 4, b"|33 Y"),
+    let table: [(&[u8], u32, u8, &[u8]); 10] = [
+        (TEXT, 1, 1, b"|25 ^DAY|34 ^Z"),
+        (TEXT, 1, 2, b"|32 X"),
+        (TEXT, 2, 1, b"|26 ^FIN"),
+        (TEXT, 2, 3, b"|33 Y"),
+        (TEXT, 5, 4, b"|33 Y"),
+        (LEVELS, 0, 1, b"|15 X"),
+        (LEVELS, 0, 2, b""),
+        (LEVELS, 1, 2, b"|16 Z"),
+        (LEVELS, 1, 1, b""),
+        (LEVELS, 2, 3, b""),
     ];
-    for conf in confs(rt.alloc())?.as_slice() {
-        for (set, copy, want) in table {
+    for (text, set, copy, want) in table {
+        for conf in confs(rt.alloc(), text)?.as_slice() {
+            assert!(rt; conf.has_vsns());
             let shown = exprs_of(rt.alloc(), conf, set, copy)?;
             assert_eq!(rt; shown.as_slice(), want);
         }

@@ -8,7 +8,7 @@ use std::test::Fail;
 type Refused = (&'static [u8], u32, ConfFault);
 
 /// Lines of no directive, with fields that lack or are too many.
-const FORMS: [Refused; 38] = [
+const FORMS: [Refused; 41] = [
     (b"set1 work -color red", 1, ConfFault::UnknownDirective),
     (
         b"a .\n1\nset1 work -color red",
@@ -25,6 +25,13 @@ const FORMS: [Refused; 38] = [
         2,
         ConfFault::UnknownDirective,
     ),
+    (
+        b"params\nallsets -priority age 1\nendparams",
+        2,
+        ConfFault::UnknownDirective,
+    ),
+    (b"ovflmin = li 1G", 1, ConfFault::UnknownDirective),
+    (b"a . -after 2020-01-01", 1, ConfFault::UnknownDirective),
     (b"endparams", 1, ConfFault::UnknownDirective),
     (b"endvsnpools", 1, ConfFault::UnknownDirective),
     (b"1 = 2", 1, ConfFault::UnknownDirective),

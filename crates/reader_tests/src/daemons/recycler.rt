@@ -32,7 +32,7 @@ fn shown(alloc: Global, recycler: &RecyclerConf) -> Result<Bytes, AllocError> {
     Ok(text)
 }
 
-const SAID: [Said; 8] = [
+const SAID: [Said; 9] = [
     (b"", b"|95 60 1 1073741824 |95 60 1 1073741824 "),
     (
         b"logfile = /var/adm/recycler.log\r\nrobot\r\nvault -mail root@site\r\n",
@@ -62,6 +62,25 @@ const SAID: [Said; 8] = [
         b"robot -mingain 007 -ignore -ignore",
         b"|95 7 1 1073741824 i|95 60 1 1073741824 ",
     ),
+    (
+        b"# \xf0\x9f\x8e\xac\nlogfile\t=\t/var/\xc3\xa9t\xc3\xa9\nrobot\t-hwm\t80\t# \xe2\x82\xac\nno_recycle li\t\xc3\xa9",
+        b"|80 60 1 1073741824 |95 60 1 1073741824 |4 li \xc3\xa9",
+    ),
+];
+
+/// A site whose libraries are called as words of the file.
+const SITE_OF_WORDS: &[u8] = b"library = no_recycle 1\nlibrary = logfile 1\n";
+
+/// What is said in that site.
+const SAID_OF_WORDS: [Said; 2] = [
+    (
+        b"logfile -hwm 5",
+        b"|95 60 1 1073741824 |5 60 1 1073741824 ",
+    ),
+    (
+        b"logfile = -hwm 5\nno_recycle li X\nlogfile -ignore\nlogfile",
+        b"|95 60 1 1073741824 |95 60 1 1073741824 i|2 li X",
+    ),
 ];
 
 #[test]
@@ -75,10 +94,19 @@ fn recycler_cmd_says(rt: HostRuntime) -> Result<(), Fail> {
             assert_eq!(rt; shown(rt.alloc(), &plain)?.as_slice(), want);
         }
     }
+    let site = read_site(rt.alloc(), SITE_OF_WORDS)?;
+    for (text, want) in SAID_OF_WORDS {
+        if text.len() <= 65536 {
+            let recycler = read_recycler(rt.alloc(), text, &site)?;
+            assert_eq!(rt; shown(rt.alloc(), &recycler)?.as_slice(), want);
+            let plain = plain_recycler(rt.alloc(), text, &site)?;
+            assert_eq!(rt; shown(rt.alloc(), &plain)?.as_slice(), want);
+        }
+    }
     Ok(())
 }
 
-const REFUSED: [Refused; 32] = [
+const REFUSED: [Refused; 35] = [
     (b"tower -hwm 5", 1, ConfFault::UnknownDirective),
     (b"Robot", 1, ConfFault::UnknownDirective),
     (b"robot = 5", 1, ConfFault::UnknownDirective),
@@ -91,6 +119,9 @@ const REFUSED: [Refused; 32] = [
     (b"= x", 1, ConfFault::MissingField),
     (b"robot -hwm", 1, ConfFault::MissingField),
     (b"robot -ignore -mail", 1, ConfFault::MissingField),
+    (b"robot -mingain", 1, ConfFault::MissingField),
+    (b"robot -hwm 5 -vsncount", 1, ConfFault::MissingField),
+    (b"robot\nvault -dataquantity", 2, ConfFault::MissingField),
     (b"no_recycle", 1, ConfFault::MissingField),
     (b"no_recycle li", 1, ConfFault::MissingField),
     (b"robot hwm 5", 1, ConfFault::ExtraField),
@@ -121,10 +152,27 @@ const REFUSED: [Refused; 32] = [
     (b"# c\nrobot\n\xff", 3, ConfFault::NotText),
 ];
 
+/// What is refused in the site whose libraries are called as words.
+const REFUSED_OF_WORDS: [Refused; 4] = [
+    (b"no_recycle -hwm 5", 1, ConfFault::BadValue),
+    (b"logfile\nno_recycle", 2, ConfFault::MissingField),
+    (b"logfile =", 1, ConfFault::MissingField),
+    (b"logfile hwm 5", 1, ConfFault::ExtraField),
+];
+
 #[test]
 fn recycler_cmd_is_refused(rt: HostRuntime) -> Result<(), Fail> {
     let site = read_site(rt.alloc(), SITE)?;
     for (text, line, fault) in REFUSED {
+        if text.len() <= 65536 {
+            let want = refused(line, fault);
+            assert_eq!(rt; read_recycler(rt.alloc(), text, &site).err(), want);
+            let want = refused(line, fault);
+            assert_eq!(rt; plain_recycler(rt.alloc(), text, &site).err(), want);
+        }
+    }
+    let site = read_site(rt.alloc(), SITE_OF_WORDS)?;
+    for (text, line, fault) in REFUSED_OF_WORDS {
         if text.len() <= 65536 {
             let want = refused(line, fault);
             assert_eq!(rt; read_recycler(rt.alloc(), text, &site).err(), want);

@@ -34,7 +34,7 @@ fn shown(alloc: Global, releaser: &ReleaserConf) -> Result<Bytes, AllocError> {
     Ok(text)
 }
 
-const SAID: [Said; 18] = [
+const SAID: [Said; 19] = [
     (b"", b"1000000 |1000000 600 "),
     (
         b"logfile = /var/adm/releaser.log\nlist_size = 10000\ndisplay_all_candidates\ndebug_partial\ndisplay_all_candidates = x\ndebug_partial = y z",
@@ -83,6 +83,10 @@ const SAID: [Said; 18] = [
     (
         b"fs = samfs1\nweight_age = 0.1\nfs = other\nweight_age_access = 0.5\nfs = samfs1\nweight_age = 0.2",
         b"200000 |1000000 600 ",
+    ),
+    (
+        b"# \xf0\x9f\x8e\xac\nlogfile\t=\t/var/\xc3\xa9t\xc3\xa9\nweight_size\t=\t0.5 # \xe2\x82\xac\n\tno_release\t",
+        b"1000000 |500000 600 n",
     ),
     (
         b"no_release\nfs = samfs1\nrearch_no_release",

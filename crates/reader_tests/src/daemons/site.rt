@@ -31,7 +31,7 @@ fn shown(alloc: Global, site: &SiteConf) -> Result<Bytes, AllocError> {
     Ok(text)
 }
 
-const SAID: [Said; 9] = [
+const SAID: [Said; 11] = [
     (b"", b"samfs1 67108864 80 70 "),
     (
         b"# the site\r\nfs=film_1.a\r\n\tcache =256m # in memory\r\n\r\nhigh = 090\r\nlow= 0\r\n",
@@ -55,6 +55,14 @@ const SAID: [Said; 9] = [
         b"samfs1 67108864 80 70 |a 1 |0 li V 1073741824 ",
     ),
     (b" \t\n\\\n\nca\\\nche=\\\n8192", b"samfs1 8192 80 70 "),
+    (
+        b"# caf\xc3\xa9\nlibrary\t=\tr\t2\nlow = 5 # \xe2\x82\xac\nvolume = r\tli\tV \t1M",
+        b"samfs1 67108864 80 5 |r 2 |0 li V 1048576 ",
+    ),
+    (
+        b"library = abcdefghijklmnopqrstuvwxyz.-_XYZ 1\nvolume = abcdefghijklmnopqrstuvwxyz.-_XYZ li abcdefghijklmnopqrstuvwxyz.-_XYZ 512",
+        b"samfs1 67108864 80 70 |abcdefghijklmnopqrstuvwxyz.-_XYZ 1 |0 li abcdefghijklmnopqrstuvwxyz.-_XYZ 512 ",
+    ),
     // the film house
     (
         b"fs = film1\ncache = 64M\nlibrary = robot1 2\nlibrary = vault 1\n\
@@ -82,7 +90,7 @@ fn site_conf_says(rt: HostRuntime) -> Result<(), Fail> {
 }
 
 /// Lines that are of no form.
-const OF_NO_FORM: [Refused; 35] = [
+const OF_NO_FORM: [Refused; 39] = [
     (b"frob = 1", 1, ConfFault::UnknownDirective),
     (b"fs = a\nfrob", 2, ConfFault::UnknownDirective),
     (b"fs samfs1", 1, ConfFault::UnknownDirective),
@@ -94,6 +102,11 @@ const OF_NO_FORM: [Refused; 35] = [
     (b"\n# c\nlibrary = robot", 3, ConfFault::MissingField),
     (b"volume = ", 1, ConfFault::MissingField),
     (b"library = a 1\nvolume = a li", 2, ConfFault::MissingField),
+    (
+        b"library = a 1\nvolume = a li V",
+        2,
+        ConfFault::MissingField,
+    ),
     (b"library = \\\n\\\na\nfrob", 1, ConfFault::MissingField),
     (b"fs = a b", 1, ConfFault::ExtraField),
     (b"library = a 1 1", 1, ConfFault::ExtraField),
@@ -108,6 +121,21 @@ const OF_NO_FORM: [Refused; 35] = [
     (
         b"fs = abcdefghijklmnopqrstuvwxyz.-_XYZ1",
         1,
+        ConfFault::BadValue,
+    ),
+    (
+        b"library = abcdefghijklmnopqrstuvwxyz.-_XYZ1 1",
+        1,
+        ConfFault::BadValue,
+    ),
+    (
+        b"volume = abcdefghijklmnopqrstuvwxyz.-_XYZ1 li V 1M",
+        1,
+        ConfFault::BadValue,
+    ),
+    (
+        b"library = a 1\nvolume = a li abcdefghijklmnopqrstuvwxyz.-_XYZ1 1M",
+        2,
         ConfFault::BadValue,
     ),
     (b"fs = a\r", 1, ConfFault::BadValue),

@@ -20,7 +20,7 @@ fn shown(alloc: Global, stager: &StagerConf) -> Result<Bytes, AllocError> {
     Ok(text)
 }
 
-const SAID: [Said; 7] = [
+const SAID: [Said; 8] = [
     (b"", b"2 1 |4000 1 2 3 4 "),
     (
         b"bufsize = li 16 lock\r\ndirectio=on\r\nlogfile = /var/adm/stager.log all\r\n",
@@ -36,6 +36,10 @@ const SAID: [Said; 7] = [
     ),
     (b"copysel = 3:2:1:4\ncopysel = 03\n", b"2 1 |4000 3 1 2 4 "),
     (b"copysel=2:\\\n4:1", b"2 1 |4000 2 4 1 3 "),
+    (
+        b"# \xf0\x9f\x8e\xac\nlogfile\t=\t/var/\xc3\xa9t\xc3\xa9 \xe2\x82\xac # \xc3\xbc\ndrives\t= robot\t1",
+        b"1 1 |4000 1 2 3 4 ",
+    ),
     (
         b"# stage\n\ndrives = \\\r\nvault \\\n 0\nmaxactive = 000000100 # files\\\ncopysel = 4:3:2:1",
         b"2 0 |100 4 3 2 1 ",
