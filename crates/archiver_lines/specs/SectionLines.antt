@@ -95,6 +95,19 @@ items_of pools media line found (field ∷ next ∷ fields) = if bytes_eq field 
 abbrev pub all_exprs : List (List VsnExpr) → List VsnExpr
 all_exprs given = flat_map (λ exprs. exprs) given
 
+-- whether expressions are read, or the fault
+abbrev pub tested : Read (List VsnExpr) → Read (Unit {0})
+tested read = do
+  exprs ← read
+  Ok tt
+
+-- expressions that were read, where there is room for so many
+abbrev pub in_room : ℕ → Read (List VsnExpr) → Read (List VsnExpr)
+in_room room read = do
+  exprs ← read
+  fits ← refuse_if (nat_lt room (length exprs)) TooMany
+  Ok exprs
+
 -- `NAME MEDIA` and one or more items, where there is room for so many expressions
 unfoldable pub vsns_line : Field → List Field → List Field → List PoolLine → ℕ → ℕ → Field → List Field → Read VsnsLine
 vsns_line site file_systems sets pools room number field fields = do

@@ -1,9 +1,10 @@
 //! Lines of sections.
 
-ghost use Rattle.std.specs.Prelude.{◌≡◌, ◌++◌, ◌∷◌, ◌&&◌, [], ◌≤◌, length, OnOk, IfOk, IfErr, map};
+ghost use Rattle.std.specs.Prelude.{◌≡◌, ℕ, List as Seq, ◌++◌, ◌∷◌, ◌&&◌, [], ◌≤◌, length, OnOk, IfOk, IfErr, MatchOption, map, codes, true, false, Err};
+ghost use Rattle.std.specs.Str.{bytes_eq};
 ghost use Rattle.site_text.specs.Fields.{Gives, Fails};
 ghost use Rattle.site_text.specs.Forms.{read_form};
-ghost use Rattle.archiver_lines.specs.SectionLines.{expr_of, is_of_pool, exprs_at, pool_exprs, is_pool, items_of, pool_form, params_line, vsns_line};
+ghost use Rattle.archiver_lines.specs.SectionLines.{expr_of, is_of_pool, exprs_at, pool_exprs, is_pool, items_of, tested, in_room, pool_form, params_line, vsns_line};
 
 use crate::names::{SetNames, copy_name};
 use crate::param_options::read_param_options;
@@ -120,8 +121,33 @@ struct Items<'a> {
     line: u32,
 }
 
+/// The pool that an item names, whose name is taken, or none where the item is an expression.
+#[tactic(auto, using(crate::proofs::Items::pool_missing, crate::proofs::Items::pool_unknown))]
+fn pool_of_item<'a>(
+    pools: &[PoolLine],
+    first: &[u8],
+    fields: &mut Fields<'a>,
+) -> Result<Option<&'a [u8]>, ConfFault>
+    ensures named { IfOk result (λ named. MatchOption named
+        ((bytes_eq first.now (codes "-pool") ≡ false) × (fields.new ≡ fields.old))
+        (λ pool. (bytes_eq first.now (codes "-pool") ≡ true) × (fields.old ≡ pool.now ∷ fields.new) × (is_pool pools.now pool.now ≡ true))) }
+    ensures shorter { length fields.new ≤ length fields.old }
+    ensures wrong { IfErr result (λ fault. (media : Seq ℕ) → (line : ℕ) → (found : Seq VsnExpr) → items_of pools.now media line found (first.now ∷ fields.old) ≡ Err fault) }
+{
+    if first != b"-pool".as_slice() {
+        return Ok(None);
+    }
+    let Some(pool) = fields.take() else {
+        return Err(ConfFault::MissingField);
+    };
+    if !is_pool(pools, pool) {
+        return Err(ConfFault::UnknownPool);
+    }
+    Ok(Some(pool))
+}
+
 /// Puts the expressions of the first item at the end.
-#[tactic(auto, using(crate::proofs::Items::item_alone, crate::proofs::Items::item_pool, crate::proofs::Items::pool_missing, crate::proofs::Items::pool_unknown))]
+#[tactic(auto, using(crate::proofs::Items::item_alone, crate::proofs::Items::item_pool))]
 fn add_item(
     alloc: Global,
     items: &Items,
@@ -134,30 +160,43 @@ fn add_item(
     ensures shorter { length fields.new ≤ length fields.old }
     ensures wrong { IfErr result (λ error. Fails error (items_of items.now.pools.now items.now.media.now items.now.line found.old (first.now ∷ fields.old))) }
 {
-    if first != b"-pool".as_slice() {
-        found.push(expr_of(alloc, items.media, first, items.line)?)?;
-        return Ok(());
+    match pool_of_item(items.pools, first, fields)? {
+        Some(pool) => put_pool(alloc, found, items.pools, pool, items.media)?,
+        None => found.push(expr_of(alloc, items.media, first, items.line)?)?,
     }
-    let Some(pool) = fields.take() else {
-        return Err(LineError::Fault(ConfFault::MissingField));
-    };
-    if !is_pool(items.pools, pool) {
-        return Err(LineError::Fault(ConfFault::UnknownPool));
-    }
-    put_pool(alloc, found, items.pools, pool, items.media)?;
     Ok(())
 }
 
-/// The expressions of all items.
-fn vsn_items(alloc: Global, items: &Items, fields: Fields) -> Result<List<VsnExpr>, LineError>
-    ensures { Gives (λ exprs. exprs) result (items_of items.now.pools.now items.now.media.now items.now.line [] fields.entry) }
+/// Tests the items, as reading them does, and copies nothing.
+#[tactic(auto, using(crate::proofs::Items::alone_tested, crate::proofs::Items::pool_tested))]
+fn test_items(items: &Items, fields: Fields) -> Result<(), ConfFault>
+    ensures { result ≡ tested (items_of items.now.pools.now items.now.media.now items.now.line [] fields.entry) }
+{
+    let mut fields = fields;
+    while let Some(first) = fields.take() {
+        pool_of_item(items.pools, first, &mut fields)?;
+    }
+    Ok(())
+}
+
+/// The expressions of all items, where there is room for so many. The first item beyond the room is the last that is copied.
+#[tactic(auto, using(crate::proofs::Items::over_room, crate::proofs::Items::wrong_behind, crate::proofs::Items::all_fit))]
+fn vsn_items(
+    alloc: Global,
+    items: &Items,
+    room: usize,
+    fields: Fields,
+) -> Result<List<VsnExpr>, LineError>
+    ensures { Gives (λ exprs. exprs) result (in_room room (items_of items.now.pools.now items.now.media.now items.now.line [] fields.entry)) }
 {
     let mut found = List::new(alloc);
     let mut fields = fields;
     while let Some(first) = fields.take() {
-        match add_item(alloc, items, &mut found, first, &mut fields) {
-            Ok(()) => {}
-            Err(error) => return Err(error),
+        add_item(alloc, items, &mut found, first, &mut fields)?;
+        if room < found.len() {
+            // A fault of an item behind goes first. No more is copied: each item may name a large pool.
+            test_items(items, fields)?;
+            return Err(LineError::Fault(ConfFault::TooMany));
         }
     }
     Ok(found)
@@ -188,7 +227,6 @@ pub fn vsns_line(
         media,
         line: number,
     };
-    let exprs = vsn_items(alloc, &items, Fields::new(rest))?;
-    refuse_if(room < exprs.len(), ConfFault::TooMany)?;
+    let exprs = vsn_items(alloc, &items, room, Fields::new(rest))?;
     Ok(VsnsLine { name, exprs })
 }
