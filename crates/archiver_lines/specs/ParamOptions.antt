@@ -1,5 +1,5 @@
 -- The options of params.
-use Rattle.std.specs.Prelude.{ℕ, ◌-◌, ◌^◌, List, [], ◌∷◌, codes, Option, Some, None, Ok, Bool, true, false, ◌==◌, ◌&&◌, ◌||◌, not, if◌then◌else◌, drop, nat_eq}
+use Rattle.std.specs.Prelude.{ℕ, ◌-◌, ◌^◌, List, [], ◌∷◌, codes, Option, Some, None, Ok, Bool, true, false, ◌&&◌, ◌||◌, not, if◌then◌else◌, drop, nat_eq}
 use Rattle.std.specs.List.{list_any, starts_with}
 use Rattle.site_text.specs.Fields.{Field, Read, ◌>>=◌}
 use Rattle.site_text.specs.Words.{option_named, word_value}
@@ -14,6 +14,7 @@ use Rattle.archiver_lines.specs.declared.param_options.Join.{Join}
 use Rattle.archiver_lines.specs.declared.param_options.Join.TheVariants as joins
 use Rattle.archiver_lines.specs.declared.param_options.SortKey.{SortKey}
 use Rattle.archiver_lines.specs.declared.param_options.SortKey.TheVariants as keys
+use Rattle.archiver_lines.specs.declared.param_options.Owner.{Owner}
 use Rattle.archiver_lines.specs.declared.param_options.Owner.TheVariants as owners
 use Rattle.archiver_lines.specs.declared.param_options.ReservePart.{ReservePart}
 use Rattle.archiver_lines.specs.declared.param_options.ReservePart.TheVariants as parts
@@ -117,15 +118,23 @@ option_alone options.Fillvsns = given.Fillvsns
 option_alone options.RecycleIgnore = given.RecycleIgnore
 option_alone option = given.Nothing
 
--- dir, user and group, of which a reservation has at most one
-abbrev pub owner_of : Given → ℕ
-owner_of (given.Reserve (parts.Owner owners.Dir)) = 1
-owner_of (given.Reserve (parts.Owner owners.User)) = 2
-owner_of (given.Reserve (parts.Owner owners.Group)) = 3
-owner_of g = 0
+-- dir, user or group, of which a reservation has at most one
+abbrev pub owner_of : Given → Option Owner
+owner_of (given.Reserve (parts.Owner owner)) = Some owner
+owner_of g = None
+
+abbrev pub is_same_owner : Owner → Owner → Bool
+is_same_owner owners.Dir owners.Dir = true
+is_same_owner owners.User owners.User = true
+is_same_owner owners.Group owners.Group = true
+is_same_owner one other = false
+
+abbrev pub are_two_owners : Option Owner → Option Owner → Bool
+are_two_owners (Some one) (Some other) = not (is_same_owner one other)
+are_two_owners one other = false
 
 abbrev pub exclude : Given → Given → Bool
-exclude a b = not (owner_of a == 0) && not (owner_of b == 0) && not (owner_of a == owner_of b)
+exclude a b = are_two_owners (owner_of a) (owner_of b)
 
 abbrev pub exclude_any : List Given → Given → Bool
 exclude_any before g = list_any (λ b. exclude b g) before

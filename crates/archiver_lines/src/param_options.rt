@@ -260,25 +260,24 @@ fn option_alone(option: ParamOption) -> Given
     }
 }
 
-/// Which of dir, user and group a reservation is by: 1, 2 and 3; else 0.
-fn owner_of(given: Given) -> u8
+/// Which of dir, user and group a reservation is by, if by any.
+fn owner_of(given: Given) -> Option<Owner>
     ensures { result ≡ owner_of given }
 {
     match given {
-        Given::Reserve(ReservePart::Owner(Owner::Dir)) => 1,
-        Given::Reserve(ReservePart::Owner(Owner::User)) => 2,
-        Given::Reserve(ReservePart::Owner(Owner::Group)) => 3,
-        _ => 0,
+        Given::Reserve(ReservePart::Owner(owner)) => Some(owner),
+        _ => None,
     }
 }
 
-/// Both are among dir, user and group, and not the same.
+/// Both are by one of dir, user and group, and not by the same.
 fn exclude(first: Given, second: Given) -> bool
     ensures { result ≡ exclude first second }
 {
-    let one = owner_of(first);
-    let other = owner_of(second);
-    one != 0 && other != 0 && one != other
+    match (owner_of(first), owner_of(second)) {
+        (Some(one), Some(other)) => one != other,
+        _ => false,
+    }
 }
 
 fn exclude_any(before: &[Given], given: Given) -> bool
