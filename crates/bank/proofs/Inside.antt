@@ -1,5 +1,5 @@
 -- Calls that write within chosen bytes of one area.
-use Rattle.std.proofs.Common.{◌≡◌, ◌≢◌, ◌⊎◌, inr, ℕ, ◌+◌, ◌<◌, ◌≤◌, Bool, false, refl, sym, ◌∙◌, arith}
+use Rattle.std.proofs.Common.{◌≡◌, ◌≢◌, ◌⊎◌, inr, ℕ, ◌+◌, ◌<◌, ◌≤◌, Bool, false, refl, ◌∙◌, arith}
 use Rattle.bank.specs.Content.{Content, Image}
 use Rattle.bank.specs.View.{View, IsImage, IsSound, Unchanged, Wrote, IsTornImage}
 use Rattle.bank.specs.Inside.{SameBeside, IsTornInside, WroteInside}

@@ -1,5 +1,5 @@
 -- Calls that write nothing: reads, syncs, and calls that changed nothing.
-use Rattle.std.proofs.Common.{ℕ, List, refl, sym, ◌∙◌, arith}
+use Rattle.std.proofs.Common.{ℕ, List, refl, sym, ◌∙◌}
 use Rattle.bank.specs.Content.{Image, Stands}
 use Rattle.bank.specs.View.{View, IsImage, IsSound, Unchanged, OnlyContent, LeavesOnly, IsTornImage, Wrote, OnlyRead}
 use Rattle.bank.proofs.Moments.{started, weakened, joined, one_call}

@@ -1,4 +1,4 @@
-use Rattle.std.proofs.Common.{◌+◌, IsTrue, length, subst, sym}
+use Rattle.std.proofs.Common.{◌+◌, length, subst, sym}
 use Rattle.bank.specs.View.{Wrote}
 use Rattle.bank.proofs.Writes.{wrote_nothing, wrote_then}
 use Rattle.journal.proofs.writing.stage.Goals.{then-payload-le-SHORT_MAX+in_ok-write_short, else-payload-le-SHORT_MAX+in_ok-write_long}
