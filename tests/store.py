@@ -5,6 +5,7 @@ Run after `rt ci`, which leaves the program in crates/samq/out/. The expected by
 """
 import os
 import random
+import resource
 import shutil
 import signal
 import subprocess
@@ -179,6 +180,45 @@ def wrong_command_files():
             check(f"{name} {content[:20]!r}", run(["run", folder], b"configure\n"), (0, answer, b""))
 
 
+def first_refusal_of_a_configuration():
+    """Where several things stand against a configuration: a file that is there, then a text too large, then the first wrong file."""
+    wrong = {"site.conf": b"cache = 1M\n", "stager.cmd": b"frob\n", "releaser.cmd": b"frob\n"}
+    large = {**wrong, "recycler.cmd": b"#" * 65537}
+    for texts, lines, answers in (
+            (wrong, b"configure\n", b"refused: stager.cmd line 1: unknown directive\n"),
+            (large, b"configure\n", b"refused: too large\n"),
+            (large, b"put /a u g x\nconfigure\n", b"ok 1\nrefused: running\n")):
+        with tempfile.TemporaryDirectory() as folder:
+            write_texts(folder, texts)
+            check(f"first refusal of {len(texts)} files", run(["run", folder], lines), (0, answers, b""))
+
+
+def large_pools():
+    """A small text whose pools would be millions of expressions is refused within little memory."""
+    pool = b"vsnpools\np li" + b" x" * 16300 + b"\nendvsnpools\n"
+    for items, answer in ((b" -pool p" * 4000, b"too many"), (b" -pool p" * 4000 + b" -pool q", b"unknown pool")):
+        with tempfile.TemporaryDirectory() as folder:
+            write_texts(folder, {"archiver.cmd": pool + b"vsns\nallsets li" + items + b"\nendvsns\n"})
+            limit = lambda: resource.setrlimit(resource.RLIMIT_AS, (1 << 29, 1 << 29))
+            done = subprocess.run([SAMQ, "run", folder], input=b"configure\n", stdout=subprocess.PIPE, preexec_fn=limit, timeout=60)
+            check("large pools", (done.returncode, done.stdout), (0, b"refused: archiver.cmd line 5: " + answer + b"\n"))
+
+
+def bad_configuration_in_a_journal():
+    """A journal whose record of a configuration may not stand where it does is bad at that record."""
+    file = put_record(1, b"/a", b"u", b"g", 1, [(0, 1)])
+    for name, before, texts in (
+            ("over a file", file, {}),
+            ("of a wrong text", b"", {"stager.cmd": b"frob\n"}),
+            ("of a text too large", b"", {"recycler.cmd": b"#" * 65537})):
+        with tempfile.TemporaryDirectory() as folder:
+            os.mkdir(os.path.join(folder, "bank"))
+            with open(os.path.join(folder, "bank", "0"), "wb") as journal:
+                journal.write(before + configured_record(texts) + b"\x00")
+            answer = b"bad journal at %d\n" % len(before)
+            check(f"a configuration {name}", run(["run", folder], b"cat /a\n"), (2, answer, b""))
+
+
 def folder_that_cannot_be_read():
     """A folder that stands where a command file should: it is there, and cannot be read."""
     with tempfile.TemporaryDirectory() as folder:
@@ -347,6 +387,9 @@ def no_folder():
         code, out, err = run(["run", os.path.join(file.name, "site")], b"put /a u g hi\n")
         check("a folder that cannot be made", (code, out), (3, b""))
         check("it says so", err != b"", True)
+    code, out, err = run(["run", ""], b"put /a u g hi\n")
+    check("a folder without a name", (code, out), (3, b""))
+    check("it says that", err != b"", True)
 
 
 def main():
@@ -354,7 +397,7 @@ def main():
         print(f"skipped: {SAMQ} is not built")
         return 0
     for test in (first_put, replaced_and_removed, several_puts, bad_journal, no_space, configured, wrong_command_files,
-                 folder_that_cannot_be_read, killed, words, locked, no_folder):
+                 first_refusal_of_a_configuration, large_pools, bad_configuration_in_a_journal, folder_that_cannot_be_read, killed, words, locked, no_folder):
         test()
     if shutil.which("cc"):
         answers_after_syncs()
