@@ -1,8 +1,7 @@
-//! Tests of the crates that read command files. They stand in a crate of their own: a crate that has tests is proved twice.
+//! Tests of the forms of command files, of the readers of site.conf and the daemons' files, and of all five together. They stand in a
+//! crate of their own: a crate that has tests is proved twice.
 #![tactic(auto)]
 
-#[cfg(test)]
-mod archiver;
 #[cfg(test)]
 mod daemons;
 #[cfg(test)]
