@@ -2,8 +2,7 @@
 
 use super::shown::both_shown;
 use archiver_cmd::{
-    ArchiverConf, Join, Owner, Params, Reserve, Sort, SortKey, Unarchage, plain_archiver,
-    read_archiver,
+    ArchiverConf, Owner, Params, Reserve, Sort, SortKey, plain_archiver, read_archiver,
 };
 use site_text::{Bytes, List};
 use std::alloc::{AllocError, Global};
@@ -92,75 +91,39 @@ const SET_ALONE: Option<Reserve> = Some(Reserve {
 });
 
 /// What `allsets` gives.
-const BY_ALL: Params = Params {
-    archmax: None,
-    fillvsns: true,
-    join: Some(Join::Path),
-    sort: None,
-    reserve: Some(Reserve {
-        set: true,
-        owner: None,
-        fs: true,
-    }),
-    ovflmin: Some(1_073_741_824),
-    startage: None,
-    startcount: None,
-    startsize: Some(1_048_576),
-    unarchage: Some(Unarchage::Modify),
-    recycle_hwm: Some(90),
-    recycle_mingain: Some(50),
-    recycle_vsncount: Some(3),
-    recycle_dataquantity: Some(2_147_483_648),
-    recycle_ignore: false,
-};
+const BY_ALL: &str =
+    "Params { archmax: None, fillvsns: true, join: Some(Path), sort: None, reserve: \
+    Some(Reserve { set: true, owner: None, fs: true }), ovflmin: Some(1073741824), \
+    startage: None, startcount: None, startsize: Some(1048576), unarchage: Some(Modify), \
+    recycle_hwm: Some(90), recycle_mingain: Some(50), recycle_vsncount: Some(3), \
+    recycle_dataquantity: Some(2147483648), recycle_ignore: false }";
 
 /// What `allsets.1` gives, and `allsets` beside it.
-const BY_COPY: Params = Params {
-    join: Some(Join::None),
-    ovflmin: Some(2_147_483_648),
-    startsize: Some(2_097_152),
-    unarchage: Some(Unarchage::Access),
-    recycle_hwm: Some(80),
-    recycle_mingain: Some(40),
-    recycle_vsncount: Some(4),
-    recycle_dataquantity: Some(1_073_741_824),
-    recycle_ignore: true,
-    ..BY_ALL
-};
+const BY_COPY: &str =
+    "Params { archmax: None, fillvsns: true, join: Some(None), sort: None, reserve: \
+    Some(Reserve { set: true, owner: None, fs: true }), ovflmin: Some(2147483648), \
+    startage: None, startcount: None, startsize: Some(2097152), unarchage: Some(Access), \
+    recycle_hwm: Some(80), recycle_mingain: Some(40), recycle_vsncount: Some(4), \
+    recycle_dataquantity: Some(1073741824), recycle_ignore: true }";
 
 /// What `a.1` gives, and the other two beside it.
-const BY_SET: Params = Params {
-    archmax: Some(2_097_152),
-    join: Some(Join::Path),
-    sort: Some(Sort {
-        key: SortKey::Size,
-        reverse: true,
-    }),
-    ovflmin: Some(0),
-    startsize: Some(3_145_728),
-    unarchage: Some(Unarchage::Modify),
-    recycle_hwm: Some(70),
-    recycle_mingain: Some(0),
-    recycle_vsncount: Some(0),
-    recycle_dataquantity: Some(1024),
-    ..BY_COPY
-};
+const BY_SET: &str =
+    "Params { archmax: Some(2097152), fillvsns: true, join: Some(Path), sort: Some(Sort { \
+    key: Size, reverse: true }), reserve: Some(Reserve { set: true, owner: None, fs: true \
+    }), ovflmin: Some(0), startage: None, startcount: None, startsize: Some(3145728), \
+    unarchage: Some(Modify), recycle_hwm: Some(70), recycle_mingain: Some(0), \
+    recycle_vsncount: Some(0), recycle_dataquantity: Some(1024), recycle_ignore: true }";
 
 /// What `a.2` gives, and `allsets` beside it.
-const BY_OTHER_COPY: Params = Params {
-    archmax: Some(3_145_728),
-    reserve: Some(Reserve {
-        set: false,
-        owner: Some(Owner::Group),
-        fs: false,
-    }),
-    recycle_hwm: Some(100),
-    recycle_ignore: true,
-    ..BY_ALL
-};
+const BY_OTHER_COPY: &str =
+    "Params { archmax: Some(3145728), fillvsns: true, join: Some(Path), sort: None, reserve: \
+    Some(Reserve { set: false, owner: Some(Group), fs: false }), ovflmin: Some(1073741824), \
+    startage: None, startcount: None, startsize: Some(1048576), unarchage: Some(Modify), \
+    recycle_hwm: Some(100), recycle_mingain: Some(50), recycle_vsncount: Some(3), \
+    recycle_dataquantity: Some(2147483648), recycle_ignore: true }";
 
 /// The options for copies of sets.
-const LEVELS_SAY: [(u32, u8, Params); 6] = [
+const LEVELS_SAY: [(u32, u8, &str); 6] = [
     (0, 1, BY_SET),
     (0, 2, BY_OTHER_COPY),
     (0, 3, BY_ALL),
@@ -168,6 +131,19 @@ const LEVELS_SAY: [(u32, u8, Params); 6] = [
     (1, 2, BY_ALL),
     (2, 1, BY_COPY),
 ];
+
+/// The options of a copy as a text. A text is compared, since a comparison of all fields takes long to prove.
+fn shown_params(
+    alloc: Global,
+    conf: &ArchiverConf,
+    set: u32,
+    copy: u8,
+) -> Result<String, AllocError> {
+    match params_of(conf, set, copy) {
+        Some(params) => format!(in alloc; "{params:?}"),
+        None => String::from_str(alloc, "no set"),
+    }
+}
 
 #[test]
 fn options_are_looked_up(rt: HostRuntime) -> Result<(), Fail> {
@@ -192,7 +168,7 @@ fn options_are_looked_up(rt: HostRuntime) -> Result<(), Fail> {
     }
     for (set, copy, want) in LEVELS_SAY {
         for conf in confs(rt.alloc(), LEVELS)?.as_slice() {
-            assert_eq!(rt; params_of(conf, set, copy), Some(want));
+            assert_eq!(rt; shown_params(rt.alloc(), conf, set, copy)?.as_str(), want);
         }
     }
     Ok(())
