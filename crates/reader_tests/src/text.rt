@@ -25,24 +25,26 @@ fn shown(alloc: Global, found: &[Line]) -> Result<Bytes, AllocError> {
     Ok(text)
 }
 
+/// Texts, and their lines.
+const LINES: [(&[u8], &[u8]); 10] = [
+    (b"", b""),
+    (b"a b\n\tc\r\n \n\nd", b"1:a|b|;2:c|;5:d|;"),
+    (b"a # b \\\nc #", b"1:a|;2:c|;"),
+    (b"a \\\n b\\\nc\nd", b"1:a|bc|;4:d|;"),
+    (b"a\\\r\nb\n#\nc", b"1:ab|;4:c|;"),
+    (b"a\\\n#b\nc", b"1:a|;3:c|;"),
+    (b"\\\n\\\nx", b"1:x|;"),
+    (b"a\\b\\ \nc", b"1:a\\b\\|;2:c|;"),
+    (b"a\r", b"1:a\r|;"),
+    (
+        b"# \xc3\xbc\n\xc3\xa9\t\xe2\x82\xac\t \xf0\x9f\x8e\xac # \xc3\xa9\nb",
+        b"2:\xc3\xa9|\xe2\x82\xac|\xf0\x9f\x8e\xac|;3:b|;",
+    ),
+];
+
 #[test]
 fn cuts_lines(rt: HostRuntime) -> Result<(), Fail> {
-    let table: [(&[u8], &[u8]); 10] = [
-        (b"", b""),
-        (b"a b\n\tc\r\n \n\nd", b"1:a|b|;2:c|;5:d|;"),
-        (b"a # b \\\nc #", b"1:a|;2:c|;"),
-        (b"a \\\n b\\\nc\nd", b"1:a|bc|;4:d|;"),
-        (b"a\\\r\nb\n#\nc", b"1:ab|;4:c|;"),
-        (b"a\\\n#b\nc", b"1:a|;3:c|;"),
-        (b"\\\n\\\nx", b"1:x|;"),
-        (b"a\\b\\ \nc", b"1:a\\b\\|;2:c|;"),
-        (b"a\r", b"1:a\r|;"),
-        (
-            b"# \xc3\xbc\n\xc3\xa9\t\xe2\x82\xac\t \xf0\x9f\x8e\xac # \xc3\xa9\nb",
-            b"2:\xc3\xa9|\xe2\x82\xac|\xf0\x9f\x8e\xac|;3:b|;",
-        ),
-    ];
-    for (text, want) in table {
+    for (text, want) in LINES {
         if text.len() <= 65536 {
             let found = lines(rt.alloc(), text)?;
             let shown = shown(rt.alloc(), found.as_slice())?;
@@ -52,77 +54,85 @@ fn cuts_lines(rt: HostRuntime) -> Result<(), Fail> {
     Ok(())
 }
 
+/// Texts that are refused.
+const NO_TEXTS: [(&[u8], TextRefusal); 5] = [
+    (b"a\n\xffb", TextRefusal::NotUtf8(2)),
+    (b"a\n\xc3\n\\", TextRefusal::NotUtf8(2)),
+    (b"a\nb\\", TextRefusal::EndsContinued(2)),
+    (b"a\\\n", TextRefusal::EndsContinued(1)),
+    (b"a\\\nb \\\r\n", TextRefusal::EndsContinued(2)),
+];
+
 #[test]
 fn refuses_texts(rt: HostRuntime) {
-    let table: [(&[u8], TextRefusal); 5] = [
-        (b"a\n\xffb", TextRefusal::NotUtf8(2)),
-        (b"a\n\xc3\n\\", TextRefusal::NotUtf8(2)),
-        (b"a\nb\\", TextRefusal::EndsContinued(2)),
-        (b"a\\\n", TextRefusal::EndsContinued(1)),
-        (b"a\\\nb \\\r\n", TextRefusal::EndsContinued(2)),
-    ];
-    for (text, want) in table {
+    for (text, want) in NO_TEXTS {
         if text.len() <= 65536 {
             assert_eq!(rt; lines(rt.alloc(), text).err(), Some(want));
         }
     }
 }
 
+/// Ages, in seconds.
+const AGES: [(&[u8], Result<u64, TextRefusal>); 16] = [
+    (b"0", Ok(0)),
+    (b"1h30m", Ok(5400)),
+    (b"90", Ok(90)),
+    (b"1m30", Ok(90)),
+    (b"2w1d", Ok(1_296_000)),
+    (b"1y", Ok(31_536_000)),
+    (b"000000000010s", Ok(10)),
+    (b"1099511627775", Err(TextRefusal::BadAge)),
+    (b"999999999999w", Err(TextRefusal::Overflow)),
+    (b"1817975w4d2175s", Ok(1_099_511_627_775)),
+    (b"1817975w4d2176s", Err(TextRefusal::Overflow)),
+    (b"999999999999s99511627776", Ok(1_099_511_627_775)),
+    (b"999999999999s99511627777", Err(TextRefusal::Overflow)),
+    (b"", Err(TextRefusal::BadAge)),
+    (b"1h m", Err(TextRefusal::BadAge)),
+    (b"h", Err(TextRefusal::BadAge)),
+];
+
+/// Sizes, in bytes.
+const SIZES: [(&[u8], Result<u64, TextRefusal>); 12] = [
+    (b"0", Ok(0)),
+    (b"10k", Ok(10_240)),
+    (b"10K", Ok(10_240)),
+    (b"64m", Ok(67_108_864)),
+    (b"1G", Ok(1_073_741_824)),
+    (b"1023t", Ok(1_124_800_395_214_848)),
+    (b"1024T", Err(TextRefusal::Overflow)),
+    (b"000000000000001", Ok(1)),
+    (b"0000000000000001", Err(TextRefusal::BadSize)),
+    (b"1234567890123456k", Err(TextRefusal::BadSize)),
+    (b"1kk", Err(TextRefusal::BadSize)),
+    (b"k", Err(TextRefusal::BadSize)),
+];
+
+/// Weights, in millionths.
+const WEIGHTS: [(&[u8], Result<u32, TextRefusal>); 12] = [
+    (b"0", Ok(0)),
+    (b"1", Ok(1_000_000)),
+    (b"1.0", Ok(1_000_000)),
+    (b"0.5", Ok(500_000)),
+    (b".25", Ok(250_000)),
+    (b"0.000001", Ok(1)),
+    (b"1.000001", Err(TextRefusal::BadWeight)),
+    (b"0.0000001", Err(TextRefusal::BadWeight)),
+    (b"1.", Err(TextRefusal::BadWeight)),
+    (b"2", Err(TextRefusal::BadWeight)),
+    (b"01", Err(TextRefusal::BadWeight)),
+    (b".", Err(TextRefusal::BadWeight)),
+];
+
 #[test]
 fn reads_fields(rt: HostRuntime) {
-    let ages: [(&[u8], Result<u64, TextRefusal>); 16] = [
-        (b"0", Ok(0)),
-        (b"1h30m", Ok(5400)),
-        (b"90", Ok(90)),
-        (b"1m30", Ok(90)),
-        (b"2w1d", Ok(1_296_000)),
-        (b"1y", Ok(31_536_000)),
-        (b"000000000010s", Ok(10)),
-        (b"1099511627775", Err(TextRefusal::BadAge)),
-        (b"999999999999w", Err(TextRefusal::Overflow)),
-        (b"1817975w4d2175s", Ok(1_099_511_627_775)),
-        (b"1817975w4d2176s", Err(TextRefusal::Overflow)),
-        (b"999999999999s99511627776", Ok(1_099_511_627_775)),
-        (b"999999999999s99511627777", Err(TextRefusal::Overflow)),
-        (b"", Err(TextRefusal::BadAge)),
-        (b"1h m", Err(TextRefusal::BadAge)),
-        (b"h", Err(TextRefusal::BadAge)),
-    ];
-    for (field, want) in ages {
+    for (field, want) in AGES {
         assert_eq!(rt; read_age(field), want);
     }
-    let sizes: [(&[u8], Result<u64, TextRefusal>); 12] = [
-        (b"0", Ok(0)),
-        (b"10k", Ok(10_240)),
-        (b"10K", Ok(10_240)),
-        (b"64m", Ok(67_108_864)),
-        (b"1G", Ok(1_073_741_824)),
-        (b"1023t", Ok(1_124_800_395_214_848)),
-        (b"1024T", Err(TextRefusal::Overflow)),
-        (b"000000000000001", Ok(1)),
-        (b"0000000000000001", Err(TextRefusal::BadSize)),
-        (b"1234567890123456k", Err(TextRefusal::BadSize)),
-        (b"1kk", Err(TextRefusal::BadSize)),
-        (b"k", Err(TextRefusal::BadSize)),
-    ];
-    for (field, want) in sizes {
+    for (field, want) in SIZES {
         assert_eq!(rt; read_size(field), want);
     }
-    let weights: [(&[u8], Result<u32, TextRefusal>); 12] = [
-        (b"0", Ok(0)),
-        (b"1", Ok(1_000_000)),
-        (b"1.0", Ok(1_000_000)),
-        (b"0.5", Ok(500_000)),
-        (b".25", Ok(250_000)),
-        (b"0.000001", Ok(1)),
-        (b"1.000001", Err(TextRefusal::BadWeight)),
-        (b"0.0000001", Err(TextRefusal::BadWeight)),
-        (b"1.", Err(TextRefusal::BadWeight)),
-        (b"2", Err(TextRefusal::BadWeight)),
-        (b"01", Err(TextRefusal::BadWeight)),
-        (b".", Err(TextRefusal::BadWeight)),
-    ];
-    for (field, want) in weights {
+    for (field, want) in WEIGHTS {
         assert_eq!(rt; read_weight(field), want);
     }
 }
@@ -172,34 +182,36 @@ impl OptionTable for Flags {
     }
 }
 
+/// Options, how they are read, and what was given before a fault.
+const OPTIONS: [(&[u8], Result<(), LineError>, &[u32]); 7] = [
+    (b"", Ok(()), &[]),
+    (b"-x -n 3 -n 4", Ok(()), &[0, 3, 4]),
+    (b"-n", Err(LineError::Fault(ConfFault::MissingField)), &[]),
+    (
+        b"-n 10 -y",
+        Err(LineError::Fault(ConfFault::OutOfRange)),
+        &[],
+    ),
+    (
+        b"-n 1 -y",
+        Err(LineError::Fault(ConfFault::UnknownDirective)),
+        &[1],
+    ),
+    (
+        b"-n 1 y",
+        Err(LineError::Fault(ConfFault::ExtraField)),
+        &[1],
+    ),
+    (
+        b"-x -n 0 -y",
+        Err(LineError::Fault(ConfFault::Conflict)),
+        &[0],
+    ),
+];
+
 #[test]
 fn reads_options(rt: HostRuntime) -> Result<(), Fail> {
-    let table: [(&[u8], Result<(), LineError>, &[u32]); 7] = [
-        (b"", Ok(()), &[]),
-        (b"-x -n 3 -n 4", Ok(()), &[0, 3, 4]),
-        (b"-n", Err(LineError::Fault(ConfFault::MissingField)), &[]),
-        (
-            b"-n 10 -y",
-            Err(LineError::Fault(ConfFault::OutOfRange)),
-            &[],
-        ),
-        (
-            b"-n 1 -y",
-            Err(LineError::Fault(ConfFault::UnknownDirective)),
-            &[1],
-        ),
-        (
-            b"-n 1 y",
-            Err(LineError::Fault(ConfFault::ExtraField)),
-            &[1],
-        ),
-        (
-            b"-x -n 0 -y",
-            Err(LineError::Fault(ConfFault::Conflict)),
-            &[0],
-        ),
-    ];
-    for (text, want, given) in table {
+    for (text, want, given) in OPTIONS {
         let fields = cut_fields(rt.alloc(), text)?;
         let mut found = List::new(rt.alloc());
         assert_eq!(rt;
@@ -271,19 +283,21 @@ impl CommandFile for Latest {
     ghost refuses_what_is_wrong = { λ file before line fault. (λ is. is, λ is. is) };
 }
 
+/// Texts, and the latest number that each says.
+const FILES: [(&[u8], Result<Option<u32>, (u32, ConfFault)>); 8] = [
+    (b"", Ok(None)),
+    (b"1\n7\n2 # c\n", Ok(Some(2))),
+    (b"1\n7\n", Err((1, ConfFault::SectionNotClosed))),
+    (b"1\nx\n10\n7", Err((2, ConfFault::BadValue))),
+    (b"1\n1\\\n0\nx", Err((2, ConfFault::OutOfRange))),
+    (b"x\n1\n\xff", Err((3, ConfFault::NotText))),
+    (b"x\n1\\", Err((2, ConfFault::NotText))),
+    (b"x\n1\\\n\n\\\n", Err((4, ConfFault::NotText))),
+];
+
 #[test]
 fn reads_files(rt: HostRuntime) {
-    let table: [(&[u8], Result<Option<u32>, (u32, ConfFault)>); 8] = [
-        (b"", Ok(None)),
-        (b"1\n7\n2 # c\n", Ok(Some(2))),
-        (b"1\n7\n", Err((1, ConfFault::SectionNotClosed))),
-        (b"1\nx\n10\n7", Err((2, ConfFault::BadValue))),
-        (b"1\n1\\\n0\nx", Err((2, ConfFault::OutOfRange))),
-        (b"x\n1\n\xff", Err((3, ConfFault::NotText))),
-        (b"x\n1\\", Err((2, ConfFault::NotText))),
-        (b"x\n1\\\n\n\\\n", Err((4, ConfFault::NotText))),
-    ];
-    for (text, want) in table {
+    for (text, want) in FILES {
         if text.len() <= 65536 {
             let want = want.map_err(|at| ConfError::Refused(ConfRefusal {
                 line: at.0,

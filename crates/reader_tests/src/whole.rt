@@ -51,27 +51,29 @@ fn shown(alloc: Global, texts: &SiteTexts) -> Result<Bytes, AllocError> {
     Ok(all)
 }
 
+/// The file that is absent, and what is read.
+const FOLDERS: [(&[u8], &[u8]); 4] = [
+    (
+        b"none",
+        b"|site.conf|archiver.cmd|stager.cmd|releaser.cmd|recycler.cmd",
+    ),
+    (
+        b"site.conf",
+        b"||archiver.cmd|stager.cmd|releaser.cmd|recycler.cmd",
+    ),
+    (
+        b"stager.cmd",
+        b"|site.conf|archiver.cmd||releaser.cmd|recycler.cmd",
+    ),
+    (
+        b"recycler.cmd",
+        b"|site.conf|archiver.cmd|stager.cmd|releaser.cmd|",
+    ),
+];
+
 #[test]
 fn each_file_is_read_under_its_name(rt: HostRuntime) -> Result<(), Fail> {
-    let table: [(&[u8], &[u8]); 4] = [
-        (
-            b"none",
-            b"|site.conf|archiver.cmd|stager.cmd|releaser.cmd|recycler.cmd",
-        ),
-        (
-            b"site.conf",
-            b"||archiver.cmd|stager.cmd|releaser.cmd|recycler.cmd",
-        ),
-        (
-            b"stager.cmd",
-            b"|site.conf|archiver.cmd||releaser.cmd|recycler.cmd",
-        ),
-        (
-            b"recycler.cmd",
-            b"|site.conf|archiver.cmd|stager.cmd|releaser.cmd|",
-        ),
-    ];
-    for (absent, want) in table {
+    for (absent, want) in FOLDERS {
         let mut folder = folder(rt.alloc(), absent, 6)?;
         let texts = read_texts(rt.alloc(), &mut folder)?;
         let all = shown(rt.alloc(), &texts)?;
@@ -158,29 +160,40 @@ fn numbers(conf: &Configuration) -> [u64; 6] {
     ]
 }
 
+/// What texts say, in numbers. A configuration is let go in few functions, since each is long to prove.
+fn said(alloc: Global, texts: Texts) -> Result<[u64; 6], ConfigurationError> {
+    configuration(alloc, texts).map(|conf| numbers(&conf))
+}
+
+/// Why texts are refused, if they are.
+fn refusal_of(alloc: Global, texts: Texts) -> Option<ConfigurationError> {
+    said(alloc, texts).err()
+}
+
 /// A cache of 1 MiB, and two volumes of one library with two drives.
 const SITE: &[u8] =
     b"cache = 1M\nlibrary = lib 2\nvolume = lib li V1 10M\nvolume = lib li V2 20M\n";
 
+/// Texts, and the numbers of what they say.
+const SAID: [(Texts, [u64; 6]); 3] = [
+    ([b"", b"", b"", b"", b""], [16_384, 0, 1, 0, 600, 0]),
+    ([SITE, b"", b"", b"", b""], [256, 2, 1, 2, 600, 95]),
+    (
+        [
+            SITE,
+            b"work .\n1 10m",
+            b"drives = lib 1",
+            b"fs = samfs1\nmin_residence_age = 5",
+            b"lib -hwm 50",
+        ],
+        [256, 2, 2, 1, 5, 50],
+    ),
+];
+
 #[test]
 fn the_files_say_a_configuration(rt: HostRuntime) {
-    let table: [(Texts, [u64; 6]); 3] = [
-        ([b"", b"", b"", b"", b""], [16_384, 0, 1, 0, 600, 0]),
-        ([SITE, b"", b"", b"", b""], [256, 2, 1, 2, 600, 95]),
-        (
-            [
-                SITE,
-                b"work .\n1 10m",
-                b"drives = lib 1",
-                b"fs = samfs1\nmin_residence_age = 5",
-                b"lib -hwm 50",
-            ],
-            [256, 2, 2, 1, 5, 50],
-        ),
-    ];
-    for (texts, want) in table {
-        let conf = configuration(rt.alloc(), texts);
-        assert_eq!(rt; conf.map(|conf| numbers(&conf)), Ok(want));
+    for (texts, want) in SAID {
+        assert_eq!(rt; said(rt.alloc(), texts), Ok(want));
     }
 }
 
@@ -188,72 +201,77 @@ fn refused(file: CommandFile, line: u32, fault: ConfFault) -> Option<Configurati
     Some(ConfigurationError::Refused(FileRefusal { file, line, fault }))
 }
 
+/// Texts, and which of them is refused at which line, and why.
+const REFUSED: [(Texts, CommandFile, u32, ConfFault); 5] = [
+    (
+        [b"cache = 1", b"", b"", b"", b""],
+        CommandFile::Site,
+        1,
+        ConfFault::OutOfRange,
+    ),
+    (
+        [SITE, b"a .\n1\nset1 work -color red", b"", b"", b""],
+        CommandFile::Archiver,
+        3,
+        ConfFault::UnknownDirective,
+    ),
+    (
+        [SITE, b"", b"\ndrives = tower 1", b"", b""],
+        CommandFile::Stager,
+        2,
+        ConfFault::BadValue,
+    ),
+    (
+        [SITE, b"", b"", b"no_release\nweight_age = 2", b""],
+        CommandFile::Releaser,
+        2,
+        ConfFault::BadValue,
+    ),
+    (
+        [SITE, b"", b"", b"", b"# none\n\ntower -hwm 5"],
+        CommandFile::Recycler,
+        3,
+        ConfFault::UnknownDirective,
+    ),
+];
+
 #[test]
 fn each_file_is_refused(rt: HostRuntime) {
-    let table: [(Texts, CommandFile, u32, ConfFault); 5] = [
-        (
-            [b"cache = 1", b"", b"", b"", b""],
-            CommandFile::Site,
-            1,
-            ConfFault::OutOfRange,
-        ),
-        (
-            [SITE, b"a .\n1\nset1 work -color red", b"", b"", b""],
-            CommandFile::Archiver,
-            3,
-            ConfFault::UnknownDirective,
-        ),
-        (
-            [SITE, b"", b"\ndrives = tower 1", b"", b""],
-            CommandFile::Stager,
-            2,
-            ConfFault::BadValue,
-        ),
-        (
-            [SITE, b"", b"", b"no_release\nweight_age = 2", b""],
-            CommandFile::Releaser,
-            2,
-            ConfFault::BadValue,
-        ),
-        (
-            [SITE, b"", b"", b"", b"# none\n\ntower -hwm 5"],
-            CommandFile::Recycler,
-            3,
-            ConfFault::UnknownDirective,
-        ),
-    ];
-    for (texts, file, line, fault) in table {
-        let error = configuration(rt.alloc(), texts).err();
-        assert_eq!(rt; error, refused(file, line, fault));
+    for (texts, file, line, fault) in REFUSED {
+        assert_eq!(rt; refusal_of(rt.alloc(), texts), refused(file, line, fault));
     }
 }
 
+/// Texts of which two are wrong, and which of them is told, and its line.
+const TWO_WRONG: [(Texts, CommandFile, u32); 4] = [
+    (
+        [b"\nfrob", b"wait", b"", b"", b"frob"],
+        CommandFile::Site,
+        2,
+    ),
+    (
+        [b"", b"\n\nwait", b"", b"frob = 1", b""],
+        CommandFile::Archiver,
+        3,
+    ),
+    (
+        [b"", b"", b"frob = 1", b"frob = 1", b"frob"],
+        CommandFile::Stager,
+        1,
+    ),
+    (
+        [b"", b"", b"", b"\nfrob = 1", b"frob"],
+        CommandFile::Releaser,
+        2,
+    ),
+];
+
 #[test]
 fn the_first_of_two_wrong_files_is_told(rt: HostRuntime) {
-    let table: [(Texts, CommandFile, u32); 4] = [
-        (
-            [b"\nfrob", b"wait", b"", b"", b"frob"],
-            CommandFile::Site,
-            2,
-        ),
-        (
-            [b"", b"\n\nwait", b"", b"frob = 1", b""],
-            CommandFile::Archiver,
-            3,
-        ),
-        (
-            [b"", b"", b"frob = 1", b"frob = 1", b"frob"],
-            CommandFile::Stager,
-            1,
-        ),
-        (
-            [b"", b"", b"", b"\nfrob = 1", b"frob"],
-            CommandFile::Releaser,
-            2,
-        ),
-    ];
-    for (texts, file, line) in table {
-        let error = configuration(rt.alloc(), texts).err();
-        assert_eq!(rt; error, refused(file, line, ConfFault::UnknownDirective));
+    for (texts, file, line) in TWO_WRONG {
+        assert_eq!(rt;
+            refusal_of(rt.alloc(), texts),
+            refused(file, line, ConfFault::UnknownDirective)
+        );
     }
 }
