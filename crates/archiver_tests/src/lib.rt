@@ -1,4 +1,4 @@
-//! Tests of the reader of archiver.cmd. They stand in a crate of their own: a crate that has tests is proved twice.
+//! Tests of the reader of archiver.cmd.
 #![tactic(auto)]
 
 #[cfg(test)]

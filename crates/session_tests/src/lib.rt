@@ -1,5 +1,4 @@
-//! Tests of whole runs, compared with the plain slow program. They stand in a crate of their own: a crate that has tests is
-//! proved twice.
+//! Tests of whole runs, compared with the plain slow program.
 #![tactic(auto)]
 
 #[cfg(test)]

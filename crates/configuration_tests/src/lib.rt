@@ -1,0 +1,5 @@
+//! Tests of the five command files together.
+#![tactic(auto)]
+
+#[cfg(test)]
+mod whole;

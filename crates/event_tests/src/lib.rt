@@ -1,0 +1,7 @@
+//! Tests of what a site keeps, and of events.
+#![tactic(auto)]
+
+#[cfg(test)]
+mod events;
+#[cfg(test)]
+mod sites;
