@@ -1,35 +1,75 @@
 //! recycler.cmd.
 
 use super::{Refused, SITE, Said, push_number, refused};
-use daemon_cmds::{RecyclerConf, plain_recycler, read_recycler, read_site};
-use site_text::{Bytes, ConfFault};
+use daemon_cmds::{
+    LibraryRecycling, NoRecycle, RecyclerConf, plain_recycler, read_recycler, read_site,
+};
+use site_text::{Bytes, ConfError, ConfFault};
 use std::alloc::{AllocError, Global};
 use std::test::Fail;
 
-/// The libraries as `HWM MINGAIN VSNCOUNT DATAQUANTITY` and `i` where it is ignored, and the volumes as `LINE MEDIA EXPR..`, each
-/// behind a `|`.
-fn shown(alloc: Global, recycler: &RecyclerConf) -> Result<Bytes, AllocError> {
-    let mut text = Bytes::new(alloc);
+/// `|HWM MINGAIN VSNCOUNT DATAQUANTITY`, and `i` where it is ignored.
+fn push_library(
+    text: &mut Bytes,
+    alloc: Global,
+    library: &LibraryRecycling,
+) -> Result<(), AllocError> {
+    text.push(b'|')?;
+    push_number(text, alloc, u64::from(library.hwm))?;
+    push_number(text, alloc, u64::from(library.mingain))?;
+    push_number(text, alloc, u64::from(library.vsncount))?;
+    push_number(text, alloc, library.dataquantity)?;
+    if library.ignore {
+        text.push(b'i')?;
+    }
+    Ok(())
+}
+
+/// `|LINE MEDIA EXPR ..`.
+fn push_volumes(text: &mut Bytes, alloc: Global, volumes: &NoRecycle) -> Result<(), AllocError> {
+    text.push(b'|')?;
+    push_number(text, alloc, u64::from(volumes.line))?;
+    text.extend(volumes.media.as_slice())?;
+    for pattern in volumes.patterns.as_slice() {
+        text.push(b' ')?;
+        text.extend(pattern.as_slice())?;
+    }
+    Ok(())
+}
+
+/// The libraries and the volumes.
+fn push_all(text: &mut Bytes, alloc: Global, recycler: &RecyclerConf) -> Result<(), AllocError> {
     for library in recycler.libraries.as_slice() {
-        text.push(b'|')?;
-        push_number(&mut text, alloc, u64::from(library.hwm))?;
-        push_number(&mut text, alloc, u64::from(library.mingain))?;
-        push_number(&mut text, alloc, u64::from(library.vsncount))?;
-        push_number(&mut text, alloc, library.dataquantity)?;
-        if library.ignore {
-            text.push(b'i')?;
-        }
+        push_library(text, alloc, library)?;
     }
     for volumes in recycler.no_recycle.as_slice() {
-        text.push(b'|')?;
-        push_number(&mut text, alloc, u64::from(volumes.line))?;
-        text.extend(volumes.media.as_slice())?;
-        for pattern in volumes.patterns.as_slice() {
-            text.push(b' ')?;
-            text.extend(pattern.as_slice())?;
-        }
+        push_volumes(text, alloc, volumes)?;
     }
+    Ok(())
+}
+
+fn shown(alloc: Global, recycler: &RecyclerConf) -> Result<Bytes, AllocError> {
+    let mut text = Bytes::new(alloc);
+    push_all(&mut text, alloc, recycler)?;
     Ok(text)
+}
+
+/// What the reader says of a text, or why it refuses it.
+fn said(alloc: Global, site: &[u8], text: &[u8]) -> Result<Bytes, ConfError> {
+    if site.len() > 65536 || text.len() > 65536 {
+        return Err(ConfError::NoMemory);
+    }
+    let site = read_site(alloc, site)?;
+    Ok(shown(alloc, &read_recycler(alloc, text, &site)?)?)
+}
+
+/// The same of the plain slow reader.
+fn said_plainly(alloc: Global, site: &[u8], text: &[u8]) -> Result<Bytes, ConfError> {
+    if site.len() > 65536 || text.len() > 65536 {
+        return Err(ConfError::NoMemory);
+    }
+    let site = read_site(alloc, site)?;
+    Ok(shown(alloc, &plain_recycler(alloc, text, &site)?)?)
 }
 
 const SAID: [Said; 9] = [
@@ -85,23 +125,16 @@ const SAID_OF_WORDS: [Said; 2] = [
 
 #[test]
 fn recycler_cmd_says(rt: HostRuntime) -> Result<(), Fail> {
-    let site = read_site(rt.alloc(), SITE)?;
     for (text, want) in SAID {
-        if text.len() <= 65536 {
-            let recycler = read_recycler(rt.alloc(), text, &site)?;
-            assert_eq!(rt; shown(rt.alloc(), &recycler)?.as_slice(), want);
-            let plain = plain_recycler(rt.alloc(), text, &site)?;
-            assert_eq!(rt; shown(rt.alloc(), &plain)?.as_slice(), want);
-        }
+        assert_eq!(rt; said(rt.alloc(), SITE, text)?.as_slice(), want);
+        assert_eq!(rt; said_plainly(rt.alloc(), SITE, text)?.as_slice(), want);
     }
-    let site = read_site(rt.alloc(), SITE_OF_WORDS)?;
     for (text, want) in SAID_OF_WORDS {
-        if text.len() <= 65536 {
-            let recycler = read_recycler(rt.alloc(), text, &site)?;
-            assert_eq!(rt; shown(rt.alloc(), &recycler)?.as_slice(), want);
-            let plain = plain_recycler(rt.alloc(), text, &site)?;
-            assert_eq!(rt; shown(rt.alloc(), &plain)?.as_slice(), want);
-        }
+        assert_eq!(rt; said(rt.alloc(), SITE_OF_WORDS, text)?.as_slice(), want);
+        assert_eq!(rt;
+            said_plainly(rt.alloc(), SITE_OF_WORDS, text)?.as_slice(),
+            want
+        );
     }
     Ok(())
 }
@@ -161,24 +194,22 @@ const REFUSED_OF_WORDS: [Refused; 4] = [
 ];
 
 #[test]
-fn recycler_cmd_is_refused(rt: HostRuntime) -> Result<(), Fail> {
-    let site = read_site(rt.alloc(), SITE)?;
+fn recycler_cmd_is_refused(rt: HostRuntime) {
     for (text, line, fault) in REFUSED {
-        if text.len() <= 65536 {
-            let want = refused(line, fault);
-            assert_eq!(rt; read_recycler(rt.alloc(), text, &site).err(), want);
-            let want = refused(line, fault);
-            assert_eq!(rt; plain_recycler(rt.alloc(), text, &site).err(), want);
-        }
+        assert_eq!(rt; said(rt.alloc(), SITE, text).err(), refused(line, fault));
+        assert_eq!(rt;
+            said_plainly(rt.alloc(), SITE, text).err(),
+            refused(line, fault)
+        );
     }
-    let site = read_site(rt.alloc(), SITE_OF_WORDS)?;
     for (text, line, fault) in REFUSED_OF_WORDS {
-        if text.len() <= 65536 {
-            let want = refused(line, fault);
-            assert_eq!(rt; read_recycler(rt.alloc(), text, &site).err(), want);
-            let want = refused(line, fault);
-            assert_eq!(rt; plain_recycler(rt.alloc(), text, &site).err(), want);
-        }
+        assert_eq!(rt;
+            said(rt.alloc(), SITE_OF_WORDS, text).err(),
+            refused(line, fault)
+        );
+        assert_eq!(rt;
+            said_plainly(rt.alloc(), SITE_OF_WORDS, text).err(),
+            refused(line, fault)
+        );
     }
-    Ok(())
 }

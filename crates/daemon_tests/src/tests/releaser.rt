@@ -2,36 +2,63 @@
 
 use super::{Refused, SITE, Said, push_number, refused};
 use daemon_cmds::{AgeWeights, ReleaserConf, plain_releaser, read_releaser, read_site};
-use site_text::{Bytes, ConfFault};
+use site_text::{Bytes, ConfError, ConfFault};
 use std::alloc::{AllocError, Global};
 use std::test::Fail;
 
-/// The weights of ages, a `|`, the weight of the size and the least residence, then `n` for no_release and `r` for
-/// rearch_no_release.
-fn shown(alloc: Global, releaser: &ReleaserConf) -> Result<Bytes, AllocError> {
-    let mut text = Bytes::new(alloc);
-    match releaser.ages {
-        AgeWeights::Least(weight) => push_number(&mut text, alloc, u64::from(weight))?,
+fn push_ages(text: &mut Bytes, alloc: Global, ages: AgeWeights) -> Result<(), AllocError> {
+    match ages {
+        AgeWeights::Least(weight) => push_number(text, alloc, u64::from(weight)),
         AgeWeights::Separate {
             access,
             modify,
             residence,
         } => {
-            push_number(&mut text, alloc, u64::from(access))?;
-            push_number(&mut text, alloc, u64::from(modify))?;
-            push_number(&mut text, alloc, u64::from(residence))?;
+            push_number(text, alloc, u64::from(access))?;
+            push_number(text, alloc, u64::from(modify))?;
+            push_number(text, alloc, u64::from(residence))
         }
     }
+}
+
+/// The weights of ages, a `|`, the weight of the size and the least residence, then `n` for no_release and `r` for
+/// rearch_no_release.
+fn push_all(text: &mut Bytes, alloc: Global, releaser: &ReleaserConf) -> Result<(), AllocError> {
+    push_ages(text, alloc, releaser.ages)?;
     text.push(b'|')?;
-    push_number(&mut text, alloc, u64::from(releaser.size))?;
-    push_number(&mut text, alloc, releaser.min_residence_age)?;
+    push_number(text, alloc, u64::from(releaser.size))?;
+    push_number(text, alloc, releaser.min_residence_age)?;
     if releaser.no_release {
         text.push(b'n')?;
     }
     if releaser.rearch_no_release {
         text.push(b'r')?;
     }
+    Ok(())
+}
+
+fn shown(alloc: Global, releaser: &ReleaserConf) -> Result<Bytes, AllocError> {
+    let mut text = Bytes::new(alloc);
+    push_all(&mut text, alloc, releaser)?;
     Ok(text)
+}
+
+/// What the reader says of a text, or why it refuses it.
+fn said(alloc: Global, site: &[u8], text: &[u8]) -> Result<Bytes, ConfError> {
+    if site.len() > 65536 || text.len() > 65536 {
+        return Err(ConfError::NoMemory);
+    }
+    let site = read_site(alloc, site)?;
+    Ok(shown(alloc, &read_releaser(alloc, text, &site)?)?)
+}
+
+/// The same of the plain slow reader.
+fn said_plainly(alloc: Global, site: &[u8], text: &[u8]) -> Result<Bytes, ConfError> {
+    if site.len() > 65536 || text.len() > 65536 {
+        return Err(ConfError::NoMemory);
+    }
+    let site = read_site(alloc, site)?;
+    Ok(shown(alloc, &plain_releaser(alloc, text, &site)?)?)
 }
 
 const SAID: [Said; 19] = [
@@ -112,14 +139,9 @@ const SAID: [Said; 19] = [
 
 #[test]
 fn releaser_cmd_says(rt: HostRuntime) -> Result<(), Fail> {
-    let site = read_site(rt.alloc(), SITE)?;
     for (text, want) in SAID {
-        if text.len() <= 65536 {
-            let releaser = read_releaser(rt.alloc(), text, &site)?;
-            assert_eq!(rt; shown(rt.alloc(), &releaser)?.as_slice(), want);
-            let plain = plain_releaser(rt.alloc(), text, &site)?;
-            assert_eq!(rt; shown(rt.alloc(), &plain)?.as_slice(), want);
-        }
+        assert_eq!(rt; said(rt.alloc(), SITE, text)?.as_slice(), want);
+        assert_eq!(rt; said_plainly(rt.alloc(), SITE, text)?.as_slice(), want);
     }
     Ok(())
 }
@@ -183,15 +205,12 @@ const REFUSED: [Refused; 31] = [
 ];
 
 #[test]
-fn releaser_cmd_is_refused(rt: HostRuntime) -> Result<(), Fail> {
-    let site = read_site(rt.alloc(), SITE)?;
+fn releaser_cmd_is_refused(rt: HostRuntime) {
     for (text, line, fault) in REFUSED {
-        if text.len() <= 65536 {
-            let want = refused(line, fault);
-            assert_eq!(rt; read_releaser(rt.alloc(), text, &site).err(), want);
-            let want = refused(line, fault);
-            assert_eq!(rt; plain_releaser(rt.alloc(), text, &site).err(), want);
-        }
+        assert_eq!(rt; said(rt.alloc(), SITE, text).err(), refused(line, fault));
+        assert_eq!(rt;
+            said_plainly(rt.alloc(), SITE, text).err(),
+            refused(line, fault)
+        );
     }
-    Ok(())
 }

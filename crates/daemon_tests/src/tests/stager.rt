@@ -2,22 +2,45 @@
 
 use super::{Refused, SITE, Said, push_number, refused};
 use daemon_cmds::{StagerConf, plain_stager, read_site, read_stager};
-use site_text::{Bytes, ConfFault};
+use site_text::{Bytes, ConfError, ConfFault};
 use std::alloc::{AllocError, Global};
 use std::test::Fail;
 
 /// The drives, a `|`, the queue's limit, and the order of copies.
-fn shown(alloc: Global, stager: &StagerConf) -> Result<Bytes, AllocError> {
-    let mut text = Bytes::new(alloc);
+fn push_all(text: &mut Bytes, alloc: Global, stager: &StagerConf) -> Result<(), AllocError> {
     for drives in stager.drives.as_slice() {
-        push_number(&mut text, alloc, u64::from(*drives))?;
+        push_number(text, alloc, u64::from(*drives))?;
     }
     text.push(b'|')?;
-    push_number(&mut text, alloc, u64::from(stager.maxactive))?;
+    push_number(text, alloc, u64::from(stager.maxactive))?;
     for copy in stager.copysel.as_slice() {
-        push_number(&mut text, alloc, u64::from(*copy))?;
+        push_number(text, alloc, u64::from(*copy))?;
     }
+    Ok(())
+}
+
+fn shown(alloc: Global, stager: &StagerConf) -> Result<Bytes, AllocError> {
+    let mut text = Bytes::new(alloc);
+    push_all(&mut text, alloc, stager)?;
     Ok(text)
+}
+
+/// What the reader says of a text, or why it refuses it.
+fn said(alloc: Global, site: &[u8], text: &[u8]) -> Result<Bytes, ConfError> {
+    if site.len() > 65536 || text.len() > 65536 {
+        return Err(ConfError::NoMemory);
+    }
+    let site = read_site(alloc, site)?;
+    Ok(shown(alloc, &read_stager(alloc, text, &site)?)?)
+}
+
+/// The same of the plain slow reader.
+fn said_plainly(alloc: Global, site: &[u8], text: &[u8]) -> Result<Bytes, ConfError> {
+    if site.len() > 65536 || text.len() > 65536 {
+        return Err(ConfError::NoMemory);
+    }
+    let site = read_site(alloc, site)?;
+    Ok(shown(alloc, &plain_stager(alloc, text, &site)?)?)
 }
 
 const SAID: [Said; 8] = [
@@ -48,14 +71,9 @@ const SAID: [Said; 8] = [
 
 #[test]
 fn stager_cmd_says(rt: HostRuntime) -> Result<(), Fail> {
-    let site = read_site(rt.alloc(), SITE)?;
     for (text, want) in SAID {
-        if text.len() <= 65536 {
-            let stager = read_stager(rt.alloc(), text, &site)?;
-            assert_eq!(rt; shown(rt.alloc(), &stager)?.as_slice(), want);
-            let plain = plain_stager(rt.alloc(), text, &site)?;
-            assert_eq!(rt; shown(rt.alloc(), &plain)?.as_slice(), want);
-        }
+        assert_eq!(rt; said(rt.alloc(), SITE, text)?.as_slice(), want);
+        assert_eq!(rt; said_plainly(rt.alloc(), SITE, text)?.as_slice(), want);
     }
     Ok(())
 }
@@ -104,15 +122,12 @@ const REFUSED: [Refused; 32] = [
 ];
 
 #[test]
-fn stager_cmd_is_refused(rt: HostRuntime) -> Result<(), Fail> {
-    let site = read_site(rt.alloc(), SITE)?;
+fn stager_cmd_is_refused(rt: HostRuntime) {
     for (text, line, fault) in REFUSED {
-        if text.len() <= 65536 {
-            let want = refused(line, fault);
-            assert_eq!(rt; read_stager(rt.alloc(), text, &site).err(), want);
-            let want = refused(line, fault);
-            assert_eq!(rt; plain_stager(rt.alloc(), text, &site).err(), want);
-        }
+        assert_eq!(rt; said(rt.alloc(), SITE, text).err(), refused(line, fault));
+        assert_eq!(rt;
+            said_plainly(rt.alloc(), SITE, text).err(),
+            refused(line, fault)
+        );
     }
-    Ok(())
 }
