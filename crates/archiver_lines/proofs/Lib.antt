@@ -12,4 +12,5 @@ pub mod AssignLaws
 pub mod AssignFaults
 pub mod SectionLaws
 pub mod SectionFaults
+pub mod KindLaws
 pub mod LineLaws

@@ -22,6 +22,7 @@ use Rattle.archiver_lines.specs.Lines.{copy_reading, assign_reading, params_read
 use Rattle.archiver_lines.specs.Says.{SaysCopy, SaysAssign, SaysParams, SaysPool, SaysVsns, SaysWithin, SaysAs, LineSays, WrongAs, LineWrong}
 use Rattle.archiver_lines.specs.Wrong.{WrongCopy, WrongAssign, WrongParams, WrongVsns, WrongWithin}
 use Rattle.archiver_lines.proofs.Tests.{bind_ok}
+use Rattle.archiver_lines.proofs.KindLaws.{of_kind, kind_is}
 use Rattle.archiver_lines.proofs.CopyLaws.{copy_read, copy_said}
 use Rattle.archiver_lines.proofs.AssignLaws.{assign_read, assign_said}
 use Rattle.archiver_lines.proofs.SectionLaws.{params_read, params_said, vsns_read, vsns_said}
@@ -85,7 +86,9 @@ as_said kinds.Assignment site before line said is = assign_line_said site before
 
 pub line_said : (site : Field) (before : List Reading) (line : Line) (said : Reading) → line_of site before line ≡ Ok said → LineSays site before line said
 unfolding line_of
-line_said site before line said is = as_said (kind_of (opened_of before) line.fields) site before line said is
+line_said site before line said is =
+    let kind = kind_of (opened_of before) line.fields in
+    (kind, of_kind (opened_of before) line.fields, as_said kind site before line said is)
 
 -- ---- what is said is read
 
@@ -126,7 +129,7 @@ as_read kinds.Assignment site before line said says = assign_line_read site befo
 
 pub line_read : (site : Field) (before : List Reading) (line : Line) (said : Reading) → LineSays site before line said → line_of site before line ≡ Ok said
 unfolding line_of
-line_read site before line said says = as_read (kind_of (opened_of before) line.fields) site before line said says
+line_read site before line said (kind, is, says) = rw (kind_is (opened_of before) line.fields kind is) (as_read kind site before line said says)
 
 -- ---- what is wrong
 
@@ -174,7 +177,9 @@ as_wrong kinds.Assignment site before line fault is = assign_line_wrong site bef
 
 pub line_wrong : (site : Field) (before : List Reading) (line : Line) (fault : ConfFault) → line_of site before line ≡ Err fault → LineWrong site before line fault
 unfolding line_of
-line_wrong site before line fault is = as_wrong (kind_of (opened_of before) line.fields) site before line fault is
+line_wrong site before line fault is =
+    let kind = kind_of (opened_of before) line.fields in
+    (kind, of_kind (opened_of before) line.fields, as_wrong kind site before line fault is)
 
 -- ---- what is wrong is refused
 
@@ -211,4 +216,4 @@ as_refused kinds.Assignment site before line fault wrong = assign_line_refused s
 
 pub line_refused : (site : Field) (before : List Reading) (line : Line) (fault : ConfFault) → LineWrong site before line fault → line_of site before line ≡ Err fault
 unfolding line_of
-line_refused site before line fault wrong = as_refused (kind_of (opened_of before) line.fields) site before line fault wrong
+line_refused site before line fault (kind, is, wrong) = rw (kind_is (opened_of before) line.fields kind is) (as_refused kind site before line fault wrong)

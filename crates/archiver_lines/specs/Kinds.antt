@@ -1,5 +1,5 @@
 -- The kinds of lines.
-use Rattle.std.specs.Prelude.{List, [], ◌∷◌, codes, length, Option, Some, None, ◌==◌, ◌&&◌, if◌then◌else◌, slice_index}
+use Rattle.std.specs.Prelude.{◌≡◌, ◌≢◌, ◌⊎◌, List, [], ◌∷◌, codes, length, Option, Some, None, ◌==◌, ◌&&◌, if◌then◌else◌, slice_index}
 use Rattle.std.specs.Str.{bytes_eq}
 use Rattle.site_text.specs.Fields.{Field}
 use Rattle.site_text.specs.Words.{named}
@@ -29,13 +29,42 @@ end_word Params = codes "endparams"
 end_word VsnPools = codes "endvsnpools"
 end_word Vsns = codes "endvsns"
 
--- in a section each line is of that section, up to its end word, which stands alone
-abbrev pub inside_kind : Section → Field → List Field → LineKind
-inside_kind section field fields = if length fields == 0 && bytes_eq field (end_word section) then kinds.Ends else kinds.Within section
+-- In a section each line is of that section, up to its end word, which stands alone.
+abbrev pub IsInside : Section → List Field → LineKind → Type 0
+IsInside section fields kind =
+    ((fields ≡ end_word section ∷ []) × (kind ≡ kinds.Ends))
+    ⊎ ((fields ≢ end_word section ∷ []) × (kind ≡ kinds.Within section))
 
--- a first field that begins with a digit makes a copy line
+-- It is `NAME = VALUE ..`.
+abbrev pub IsValueLine : List Field → Type 0
+IsValueLine fields = value_line fields ≢ None
+
+-- Its one field is a word that stands for this kind.
+abbrev pub IsWord : List Field → LineKind → Type 0
+IsWord fields kind = (word : Field) × (fields ≡ word ∷ []) × (named words word ≡ Some kind)
+
+-- It is a copy line where it begins with a digit, and an assignment where it does not.
 abbrev pub plain_kind : Field → LineKind
 plain_kind field = if is_digit (slice_index field 0) then kinds.Copy else kinds.Assignment
+
+-- Where no section is open, a line is a value line, or a word of the table, or it goes by its first byte.
+abbrev pub IsOutside : List Field → LineKind → Type 0
+IsOutside fields kind =
+    (IsValueLine fields × (kind ≡ kinds.Value))
+    ⊎ ((value_line fields ≡ None) × IsWord fields kind)
+    ⊎ ((value_line fields ≡ None) × ((word : Field) → fields ≡ word ∷ [] → named words word ≡ None)
+    × ((first : Field) × (others : List Field) × (fields ≡ first ∷ others) × (kind ≡ plain_kind first)))
+
+-- The line is of this kind, where this section is open or none is.
+abbrev pub IsOfKind : Option Opened → List Field → LineKind → Type 0
+IsOfKind opened [] kind = kind ≡ kinds.Empty
+IsOfKind (Some begun) (field ∷ fields) kind = IsInside begun.section (field ∷ fields) kind
+IsOfKind None (field ∷ fields) kind = IsOutside (field ∷ fields) kind
+
+-- ---- the kind in steps
+
+abbrev pub inside_kind : Section → Field → List Field → LineKind
+inside_kind section field fields = if length fields == 0 && bytes_eq field (end_word section) then kinds.Ends else kinds.Within section
 
 -- the one field of a line
 abbrev pub word_kind : Field → LineKind

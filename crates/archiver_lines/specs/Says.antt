@@ -29,7 +29,7 @@ use Rattle.archiver_lines.specs.CopyLines.{has_copy}
 use Rattle.archiver_lines.specs.Assignments.{assigned}
 use Rattle.archiver_lines.specs.SectionLines.{pool_form, item_table, all_exprs}
 use Rattle.archiver_lines.specs.ValueForms.{value_names}
-use Rattle.archiver_lines.specs.Kinds.{kind_of}
+use Rattle.archiver_lines.specs.Kinds.{IsOfKind}
 use Rattle.archiver_lines.specs.Told.{opened_of, part_of, target_of, assignments_of, sets_of, copies_of, params_of, pools_of, room_of}
 use Rattle.archiver_lines.specs.Parts.{OptionSays, AgesSay, IsPlain, NameSays}
 use Rattle.archiver_lines.specs.Wrong.{WrongCopy, WrongAssign, WrongWithin}
@@ -129,7 +129,7 @@ SaysAs kinds.Assignment site before line said = SaysAssign site before line.numb
 
 -- The line says this, after lines that said those before it.
 abbrev pub LineSays : Field → List Reading → Line → Reading → Type 0
-LineSays site before line said = SaysAs (kind_of (opened_of before) line.fields) site before line said
+LineSays site before line said = (kind : LineKind) × IsOfKind (opened_of before) line.fields kind × SaysAs kind site before line said
 
 -- ---- what is wrong
 
@@ -146,4 +146,4 @@ WrongAs kinds.Assignment site before line fault = WrongAssign before line.fields
 
 -- This is wrong with the line, after lines that said those before it: with the first field that is wrong.
 abbrev pub LineWrong : Field → List Reading → Line → ConfFault → Type 0
-LineWrong site before line fault = WrongAs (kind_of (opened_of before) line.fields) site before line fault
+LineWrong site before line fault = (kind : LineKind) × IsOfKind (opened_of before) line.fields kind × WrongAs kind site before line fault

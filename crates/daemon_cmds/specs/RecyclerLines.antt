@@ -1,5 +1,5 @@
 -- What a line of recycler.cmd says.
-use Rattle.std.specs.Prelude.{◌≡◌, ℕ, List, [], ◌∷◌, codes, drop, Option, Some, None, Ok, Bool, true, false, ◌||◌, ◌⊎◌, is_some, if◌then◌else◌, option_map}
+use Rattle.std.specs.Prelude.{◌≡◌, ◌≢◌, ℕ, List, [], ◌∷◌, codes, drop, Option, Some, None, Ok, Bool, true, false, ◌||◌, ◌⊎◌, is_some, if◌then◌else◌, option_map}
 use Rattle.std.specs.Str.{bytes_eq}
 use Rattle.site_text.specs.declared.fault.ConfFault.{ConfFault}
 use Rattle.site_text.specs.Fields.{Field, Read, ◌>>=◌}
@@ -75,17 +75,20 @@ recycle_options = record {
 
 -- ---- lines
 
--- the place of the library with whose name a line begins, and the fields behind the name
-abbrev pub library_at : List Library → List Field → Option (ℕ × List Field)
-library_at libraries [] = None
-library_at libraries (field ∷ fields) = if is_some (value_line (field ∷ fields)) || is_no_recycle field then None else option_map (λ place. (place, fields)) (library_place libraries field)
+-- The line is `LIBRARY OPTIONS`: it is no value line, and its first field, which is not `no_recycle`, names the library at this place.
+abbrev pub NamesLibrary : List Library → List Field → ℕ → List Field → Type 0
+NamesLibrary libraries fields place rest =
+    (name : Field) × (fields ≡ name ∷ rest) × (value_line fields ≡ None) × (name ≢ codes "no_recycle") × (library_place libraries name ≡ Some place)
+
+abbrev pub NamesNone : List Library → List Field → Type 0
+NamesNone libraries fields = (place : ℕ) (rest : List Field) → NamesLibrary libraries fields place rest → ⊥
 
 -- It begins with a library of the site, and the fields behind it are options.
 pub record LibrarySays (libraries : List Library) (fields : List Field) (said : RecyclerReading) : Type 0 where
   pub place : ℕ
   pub rest : List Field
   pub options : List RecycleOption
-  pub begins : library_at libraries fields ≡ Some (place, rest)
+  pub begins : NamesLibrary libraries fields place rest
   pub say : OptionsSay recycle_options [] rest options
   pub is : said ≡ readings.Library place options
 
@@ -93,19 +96,27 @@ pub record LibrarySays (libraries : List Library) (fields : List Field) (said : 
 pub record LibraryWrong (libraries : List Library) (fields : List Field) (fault : ConfFault) : Type 0 where
   pub place : ℕ
   pub rest : List Field
-  pub begins : library_at libraries fields ≡ Some (place, rest)
+  pub begins : NamesLibrary libraries fields place rest
   pub wrong : OptionsWrong recycle_options [] rest fault
 
 -- the line with this number says this
 abbrev pub RecyclerSays : List Library → ℕ → List Field → RecyclerReading → Type 0
 RecyclerSays libraries number fields said = LibrarySays libraries fields said
-    ⊎ ((library_at libraries fields ≡ None) × DirectiveSays recycler_names (recycler_words number) fields said)
+    ⊎ (NamesNone libraries fields × DirectiveSays recycler_names (recycler_words number) fields said)
 
 abbrev pub RecyclerWrong : List Library → ℕ → List Field → ConfFault → Type 0
 RecyclerWrong libraries number fields fault = LibraryWrong libraries fields fault
-    ⊎ ((library_at libraries fields ≡ None) × DirectiveWrong recycler_names (recycler_words number) fields fault)
+    ⊎ (NamesNone libraries fields × DirectiveWrong recycler_names (recycler_words number) fields fault)
 
 -- ---- reading a line from the left
+
+abbrev pub library_in : Option (Field × List Field) → Bool → Option ℕ → List Field → Option (ℕ × List Field)
+library_in line other_word place rest = if is_some line || other_word then None else option_map (λ place. (place, rest)) place
+
+-- the place of the library with whose name a line begins, and the fields behind the name
+abbrev pub library_at : List Library → List Field → Option (ℕ × List Field)
+library_at libraries [] = None
+library_at libraries (field ∷ fields) = library_in (value_line (field ∷ fields)) (is_no_recycle field) (library_place libraries field) fields
 
 abbrev pub library_line : ℕ × List Field → Read RecyclerReading
 library_line library = options_of recycle_options [] library.1 >>= λ options. Ok (readings.Library library.0 options)

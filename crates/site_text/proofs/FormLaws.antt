@@ -1,10 +1,13 @@
 -- What is read from the left by a form is what the form means, both ways.
-use Rattle.std.proofs.Common.{◌≡◌, ℕ, zero, suc, List, [], ◌∷◌, Option, Some, None, Ok, Err, take, drop, refl, sym, ap, subst, ◌∙◌, inl, inr}
+use Rattle.std.proofs.Common.{◌≡◌, ◌≢◌, ◌==◌, false, length, ℕ, zero, suc, List, [], ◌∷◌, Option, Some, None, Ok, Err, take, drop, refl, sym, ap, subst, ◌∙◌, inl, inr}
+use Rattle.std.proofs.Math.Dec.{eqb-suc-zero}
 use Rattle.site_text.specs.declared.fault.ConfFault.{ConfFault}
-use Rattle.site_text.specs.Fields.{Field, Read, ◌>>=◌, next_field, no_field}
+use Rattle.site_text.specs.declared.fault.ConfFault.TheVariants.{UnknownDirective, MissingField}
+use Rattle.site_text.specs.Fields.{Field, Read, ◌>>=◌, wanted, next_field, no_field}
+use Rattle.site_text.specs.ValueLines.{value_line}
 use Rattle.site_text.specs.Forms.{Kind, Form, EachSays, MoreSay, AllSay, WrongHere, FirstWrong, FormSays, FormWrong, each_value, more_values, values_of, read_form}
 use Rattle.site_text.specs.Kinds.{Value, Text, any_field, ignored_form}
-use Rattle.site_text.specs.Directives.{FormTable, form_at, DirectiveSays, DirectiveWrong, read_directive}
+use Rattle.site_text.specs.Directives.{FormTable, Begins, BeginsWrong, form_at, DirectiveSays, DirectiveWrong, read_directive}
 
 abbrev consed : {V : Type 0} → V → List V → Read (List V)
 consed value values = Ok (value ∷ values)
@@ -145,33 +148,123 @@ form_read form fields said says = rw (all_read form.kinds form.more fields says.
 pub form_refused : {V R : Type 0} (form : Form V R) (fields : List Field) (fault : ConfFault) → FormWrong form fields fault → read_form form fields ≡ Err fault
 form_refused form fields fault wrong = rw (wrong_at form.kinds form.more fields fault wrong.place wrong.values wrong.before wrong.here) refl
 
+-- ---- how a line begins
+
+no_line : value_line [] ≡ None
+unfolding value_line
+no_line = refl
+
+abbrev begun : {V R : Type 0} → List Field → Form V R → Read (Form V R × List Field)
+begun fields form = Ok (form, fields)
+
+at_word : {V R : Type 0} (value_names bare_words : FormTable V R) (f : Field) (fs : List Field) → value_line (f ∷ fs) ≡ None
+    → form_at value_names bare_words (f ∷ fs) ≡ (wanted (bare_words f) UnknownDirective >>= begun fs)
+unfolding form_at
+at_word value_names bare_words f fs line = rw line refl
+
+at_nothing : {V R : Type 0} (value_names bare_words : FormTable V R) (f : Field) (fs values : List Field) → value_line (f ∷ fs) ≡ Some ([], values)
+    → form_at value_names bare_words (f ∷ fs) ≡ Err MissingField
+unfolding form_at
+at_nothing value_names bare_words f fs values line = rw line refl
+
+at_name : {V R : Type 0} (value_names bare_words : FormTable V R) (f : Field) (fs : List Field) (b : ℕ) (bs : List ℕ) (values : List Field) → value_line (f ∷ fs) ≡ Some (b ∷ bs, values)
+    → form_at value_names bare_words (f ∷ fs) ≡ (wanted (value_names (b ∷ bs)) UnknownDirective >>= begun values)
+unfolding form_at
+at_name value_names bare_words f fs b bs values line =
+    let some : (length (b ∷ bs) == 0) ≡ false = eqb-suc-zero (length bs) in
+    rw (line, some) refl
+
+not_empty : (b : ℕ) (bs : List ℕ) → b ∷ bs ≢ []
+not_empty b bs is = absurd cc
+
+abbrev JudgesBegin : {V R : Type 0} → FormTable V R → FormTable V R → List Field → Read (Form V R × List Field) → Type 0
+JudgesBegin value_names bare_words fields (Ok x) = Begins value_names bare_words fields x.0 x.1
+JudgesBegin value_names bare_words fields (Err fault) = BeginsWrong value_names bare_words fields fault
+
+word_begins : {V R : Type 0} (value_names bare_words : FormTable V R) (f : Field) (fs : List Field) (entry : Option (Form V R)) → value_line (f ∷ fs) ≡ None → bare_words f ≡ entry
+    → JudgesBegin value_names bare_words (f ∷ fs) (wanted entry UnknownDirective >>= begun fs)
+word_begins value_names bare_words f fs (Some form) line is = inr (f, line, refl, is)
+word_begins value_names bare_words f fs None line is = inr (f, fs, line, refl, is)
+
+name_begins : {V R : Type 0} (value_names bare_words : FormTable V R) (fields : List Field) (b : ℕ) (bs : List ℕ) (values : List Field) (entry : Option (Form V R)) → value_line fields ≡ Some (b ∷ bs, values)
+    → value_names (b ∷ bs) ≡ entry → JudgesBegin value_names bare_words fields (wanted entry UnknownDirective >>= begun values)
+name_begins value_names bare_words fields b bs values (Some form) line is = inl (b ∷ bs, line, not_empty b bs, is)
+name_begins value_names bare_words fields b bs values None line is = inl (b ∷ bs, values, line, not_empty b bs, is)
+
+line_begins : {V R : Type 0} (value_names bare_words : FormTable V R) (f : Field) (fs : List Field) (line : Option (Field × List Field)) → value_line (f ∷ fs) ≡ line
+    → JudgesBegin value_names bare_words (f ∷ fs) (form_at value_names bare_words (f ∷ fs))
+line_begins value_names bare_words f fs None is =
+    subst (JudgesBegin value_names bare_words (f ∷ fs)) (sym (at_word value_names bare_words f fs is)) (word_begins value_names bare_words f fs (bare_words f) is refl)
+line_begins value_names bare_words f fs (Some ([], values)) is =
+    subst (JudgesBegin value_names bare_words (f ∷ fs)) (sym (at_nothing value_names bare_words f fs values is)) (inr (values, is))
+line_begins value_names bare_words f fs (Some (b ∷ bs, values)) is =
+    subst (JudgesBegin value_names bare_words (f ∷ fs)) (sym (at_name value_names bare_words f fs b bs values is))
+    (name_begins value_names bare_words (f ∷ fs) b bs values (value_names (b ∷ bs)) is refl)
+
+begins : {V R : Type 0} (value_names bare_words : FormTable V R) (fields : List Field) → JudgesBegin value_names bare_words fields (form_at value_names bare_words fields)
+unfolding form_at
+begins value_names bare_words [] = inl refl
+begins value_names bare_words (f ∷ fs) = line_begins value_names bare_words f fs (value_line (f ∷ fs)) refl
+
+-- and back
+begun_read : {V R : Type 0} (value_names bare_words : FormTable V R) (fields : List Field) (form : Form V R) (values : List Field) → Begins value_names bare_words fields form values
+    → form_at value_names bare_words fields ≡ Ok (form, values)
+begun_read value_names bare_words [] form values (inl (name, line, there, is)) = (let h = no_line in absurd cc)
+begun_read value_names bare_words [] form values (inr (word, line, shape, is)) = absurd cc
+begun_read value_names bare_words (f ∷ fs) form values (inl ([], line, there, is)) = absurd (there refl)
+begun_read value_names bare_words (f ∷ fs) form values (inl (b ∷ bs, line, there, is)) = at_name value_names bare_words f fs b bs values line ∙ rw is refl
+begun_read value_names bare_words (f ∷ fs) form values (inr (word, line, shape, is)) =
+    let first : f ≡ word = cc in
+    let others : fs ≡ values = cc in
+    at_word value_names bare_words f fs line ∙ rw (first, is, others) refl
+
+wrong_read : {V R : Type 0} (value_names bare_words : FormTable V R) (fields : List Field) (fault : ConfFault) → BeginsWrong value_names bare_words fields fault
+    → form_at value_names bare_words fields ≡ Err fault
+unfolding form_at
+wrong_read value_names bare_words [] MissingField wrong = refl
+wrong_read value_names bare_words (f ∷ fs) MissingField (inl none) = absurd cc
+wrong_read value_names bare_words (f ∷ fs) MissingField (inr (values, line)) = at_nothing value_names bare_words f fs values line
+wrong_read value_names bare_words [] UnknownDirective (inl (name, values, line, there, is)) = (let h = no_line in absurd cc)
+wrong_read value_names bare_words [] UnknownDirective (inr (word, values, line, shape, is)) = absurd cc
+wrong_read value_names bare_words (f ∷ fs) UnknownDirective (inl ([], values, line, there, is)) = absurd (there refl)
+wrong_read value_names bare_words (f ∷ fs) UnknownDirective (inl (b ∷ bs, values, line, there, is)) = at_name value_names bare_words f fs b bs values line ∙ rw is refl
+wrong_read value_names bare_words (f ∷ fs) UnknownDirective (inr (word, values, line, shape, is)) =
+    let first : f ≡ word = cc in
+    at_word value_names bare_words f fs line ∙ rw (first, is) refl
+wrong_read value_names bare_words fields fault wrong = absurd wrong
+
 -- ---- lines that begin with a directive
 
-said_from : {V R : Type 0} (value_names bare_words : FormTable V R) (fields : List Field) (said : R) (read : Read (Form V R × List Field)) → form_at value_names bare_words fields ≡ read
-    → (read >>= λ x. read_form x.0 x.1) ≡ Ok said → DirectiveSays value_names bare_words fields said
-said_from value_names bare_words fields said (Ok x) begins is = record { form = x.0; values = x.1; begins = begins; says = form_said x.0 x.1 said is }
-said_from value_names bare_words fields said (Err fault) begins is = absurd cc
+abbrev JudgesDirective : {V R : Type 0} → FormTable V R → FormTable V R → List Field → Read R → Type 0
+JudgesDirective value_names bare_words fields (Ok said) = DirectiveSays value_names bare_words fields said
+JudgesDirective value_names bare_words fields (Err fault) = DirectiveWrong value_names bare_words fields fault
+
+behind_begin : {V R : Type 0} (value_names bare_words : FormTable V R) (fields : List Field) (form : Form V R) (values : List Field) (read : Read R) → Begins value_names bare_words fields form values
+    → Judges form values read → JudgesDirective value_names bare_words fields read
+behind_begin value_names bare_words fields form values (Ok said) is says = record { form = form; values = values; begins = is; says = says }
+behind_begin value_names bare_words fields form values (Err fault) is wrong = inr (form, values, is, wrong)
+
+from_begin : {V R : Type 0} (value_names bare_words : FormTable V R) (fields : List Field) (read : Read (Form V R × List Field)) → JudgesBegin value_names bare_words fields read
+    → JudgesDirective value_names bare_words fields (read >>= λ x. read_form x.0 x.1)
+from_begin value_names bare_words fields (Ok x) is = behind_begin value_names bare_words fields x.0 x.1 (read_form x.0 x.1) is (judged x.0 x.1)
+from_begin value_names bare_words fields (Err fault) wrong = inl wrong
+
+directive : {V R : Type 0} (value_names bare_words : FormTable V R) (fields : List Field) → JudgesDirective value_names bare_words fields (read_directive value_names bare_words fields)
+directive value_names bare_words fields = from_begin value_names bare_words fields (form_at value_names bare_words fields) (begins value_names bare_words fields)
 
 pub directive_said : {V R : Type 0} (value_names bare_words : FormTable V R) (fields : List Field) (said : R) → read_directive value_names bare_words fields ≡ Ok said → DirectiveSays value_names bare_words fields said
-directive_said value_names bare_words fields said is = said_from value_names bare_words fields said (form_at value_names bare_words fields) refl is
-
-wrong_from : {V R : Type 0} (value_names bare_words : FormTable V R) (fields : List Field) (fault : ConfFault) (read : Read (Form V R × List Field)) → form_at value_names bare_words fields ≡ read
-    → (read >>= λ x. read_form x.0 x.1) ≡ Err fault → DirectiveWrong value_names bare_words fields fault
-wrong_from value_names bare_words fields fault (Ok x) begins is = inr (x.0, x.1, begins, form_wrong x.0 x.1 fault is)
-wrong_from {V} {R} value_names bare_words fields fault (Err e) begins is = inl (begins ∙ ap (refusal {A = Form V R × List Field}) (let same : e ≡ fault = cc in same))
-  where
-    refusal : {A : Type 0} → ConfFault → Read A
-    refusal fault = Err fault
+directive_said value_names bare_words fields said is = subst (JudgesDirective value_names bare_words fields) is (directive value_names bare_words fields)
 
 pub directive_wrong : {V R : Type 0} (value_names bare_words : FormTable V R) (fields : List Field) (fault : ConfFault) → read_directive value_names bare_words fields ≡ Err fault → DirectiveWrong value_names bare_words fields fault
-directive_wrong value_names bare_words fields fault is = wrong_from value_names bare_words fields fault (form_at value_names bare_words fields) refl is
+directive_wrong value_names bare_words fields fault is = subst (JudgesDirective value_names bare_words fields) is (directive value_names bare_words fields)
 
 pub directive_read : {V R : Type 0} (value_names bare_words : FormTable V R) (fields : List Field) (said : R) → DirectiveSays value_names bare_words fields said → read_directive value_names bare_words fields ≡ Ok said
-directive_read value_names bare_words fields said says = rw says.begins (form_read says.form says.values said says.says)
+directive_read value_names bare_words fields said says =
+    rw (begun_read value_names bare_words fields says.form says.values says.begins) (form_read says.form says.values said says.says)
 
 pub directive_refused : {V R : Type 0} (value_names bare_words : FormTable V R) (fields : List Field) (fault : ConfFault) → DirectiveWrong value_names bare_words fields fault → read_directive value_names bare_words fields ≡ Err fault
-directive_refused value_names bare_words fields fault (inl is) = rw is refl
-directive_refused value_names bare_words fields fault (inr (form, values, begins, wrong)) = rw begins (form_refused form values fault wrong)
+directive_refused value_names bare_words fields fault (inl wrong) = rw (wrong_read value_names bare_words fields fault wrong) refl
+directive_refused value_names bare_words fields fault (inr (form, values, is, wrong)) = rw (begun_read value_names bare_words fields form values is) (form_refused form values fault wrong)
 
 -- ---- fields of which none is kept
 
