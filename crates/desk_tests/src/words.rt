@@ -38,9 +38,18 @@ fn short_answers(rt: HostRuntime) {
         (Reply::Marked(vsn), b"marked V1\n"),
         (Reply::Relabelled { vsn, label: 2 }, b"relabelled V1 2\n"),
         (Reply::Idle(IdleCause::BelowMark), b"idle: below the mark\n"),
+    ];
+    for (reply, wanted) in &table {
+        assert!(rt; writes(rt.alloc(), reply, wanted));
+    }
+}
+
+#[test]
+fn refusals_and_faults(rt: HostRuntime) {
+    let table = [
         (
             Reply::Refused(Rule::VolumeNotAllowed),
-            b"refused: volume not allowed\n",
+            b"refused: volume not allowed\n".as_slice(),
         ),
         (
             Reply::Claimed {
