@@ -138,12 +138,6 @@ fn steps_of_copies(rt: HostRuntime) -> Result<(), Fail> {
             })
         )
     );
-    Ok(())
-}
-
-#[test]
-fn steps_of_stagings(rt: HostRuntime) -> Result<(), Fail> {
-    let alloc = rt.alloc();
     let wanted = is_form(alloc, WANTED)?;
     assert!(rt;
         matches!(&wanted, Some(StepKind::Wanted { inodes }) if inodes.as_slice() == [8, 7].as_slice())
