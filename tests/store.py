@@ -196,9 +196,12 @@ def first_refusal_of_a_configuration():
 def large_pools():
     """A small text whose pools would be millions of expressions is refused within little memory."""
     pool = b"vsnpools\np li" + b" x" * 16300 + b"\nendvsnpools\n"
-    for items, answer in ((b" -pool p" * 4000, b"too many"), (b" -pool p" * 4000 + b" -pool q", b"unknown pool")):
+    for items, answer in (
+            (b"li" + b" -pool p" * 4000, b"too many"),
+            (b"li -pool q" + b" -pool p" * 4000, b"too many"),
+            (b"lt" + b" -pool p" * 4000 + b" -pool q", b"unknown pool")):
         with tempfile.TemporaryDirectory() as folder:
-            write_texts(folder, {"archiver.cmd": pool + b"vsns\nallsets li" + items + b"\nendvsns\n"})
+            write_texts(folder, {"archiver.cmd": pool + b"vsns\nallsets " + items + b"\nendvsns\n"})
             limit = lambda: resource.setrlimit(resource.RLIMIT_AS, (1 << 29, 1 << 29))
             done = subprocess.run([SAMQ, "run", folder], input=b"configure\n", stdout=subprocess.PIPE, preexec_fn=limit, timeout=60)
             check("large pools", (done.returncode, done.stdout), (0, b"refused: archiver.cmd line 5: " + answer + b"\n"))

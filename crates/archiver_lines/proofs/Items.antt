@@ -1,14 +1,13 @@
 -- The items of vsns lines.
-use Rattle.std.proofs.Common.{◌≡◌, ◌<◌, ◌≤◌, ℕ, Bool, true, false, cond, ltb, List, [], ◌∷◌, ◌++◌, length, Ok, Err, refl, sym, ap, ◌∙◌, codes, arith}
-use Rattle.std.proofs.lemmas.List.{append_assoc, append-nil, length-append}
-use Rattle.std.proofs.lemmas.Bool.{lt-ltb, le-ltb}
+use Rattle.std.proofs.Common.{◌≡◌, ◌<◌, ◌≤◌, ◌+◌, ℕ, Bool, take, get_or, true, false, List, [], ◌∷◌, ◌++◌, length, Ok, Err, refl, sym, ap, subst, ◌∙◌, codes, arith}
+use Rattle.std.proofs.lemmas.List.{length-append, length-map}
+use Rattle.std.proofs.lemmas.List.Folds.{length-flat_map-take}
 use Rattle.std.specs.Str.{bytes_eq}
-use Rattle.site_text.specs.Fields.{Field, Read, map_read}
-use Rattle.site_text.specs.declared.fault.ConfFault.{ConfFault}
-use Rattle.site_text.specs.declared.fault.ConfFault.TheVariants.{MissingField, UnknownPool, TooMany}
+use Rattle.site_text.specs.Fields.{Field, Read}
+use Rattle.site_text.specs.declared.fault.ConfFault.TheVariants.{MissingField, UnknownPool}
 use Rattle.archiver_lines.specs.declared.reading.PoolLine.{PoolLine}
 use Rattle.archiver_lines.specs.declared.reading.VsnExpr.{VsnExpr}
-use Rattle.archiver_lines.specs.SectionLines.{expr_of, pool_exprs, is_pool, items_of, tested, in_room}
+use Rattle.archiver_lines.specs.SectionLines.{expr_of, is_of_pool, exprs_at, pool_exprs, is_pool, items_of, items_count, exprs_count}
 
 -- a field that is not `-pool` is an expression, whatever stands behind it
 pub item_alone : (pools : List PoolLine) (media : Field) (line : ℕ) (found : List VsnExpr) (field : Field) (fields : List Field) → bytes_eq field (codes "-pool") ≡ false
@@ -32,78 +31,71 @@ pub pool_unknown : (pools : List PoolLine) (media : Field) (line : ℕ) (found :
 unfolding items_of
 pool_unknown pools media line found field pool fields rest is cut unknown = rw (cut, is, unknown) refl
 
--- ---- what was found before
-
--- these expressions before those that are read
-abbrev behind : List VsnExpr → Read (List VsnExpr) → Read (List VsnExpr)
-behind before read = map_read (λ exprs. before ++ exprs) read
-
-more_found : (b known : Bool) (before : List VsnExpr) (by_pool pool_alone by_expr expr_alone : Read (List VsnExpr)) → by_pool ≡ behind before pool_alone → by_expr ≡ behind before expr_alone
-    → cond b (cond known by_pool (Err UnknownPool)) by_expr ≡ behind before (cond b (cond known pool_alone (Err UnknownPool)) expr_alone)
-more_found true true before by_pool pool_alone by_expr expr_alone pool expr = pool
-more_found true false before by_pool pool_alone by_expr expr_alone pool expr = refl
-more_found false known before by_pool pool_alone by_expr expr_alone pool expr = expr
-
-last_found : (b : Bool) (before found : List VsnExpr) (expr : VsnExpr) → cond b (Err MissingField) (Ok ((before ++ found) ++ expr ∷ [])) ≡ behind before (cond b (Err MissingField) (Ok (found ++ expr ∷ [])))
-last_found true before found expr = refl
-last_found false before found expr = rw (append_assoc before found (expr ∷ [])) refl
-
--- What was found before stands before what is read, and decides no fault.
-found_before : (pools : List PoolLine) (media : Field) (line : ℕ) (before found : List VsnExpr) (fields : List Field) → items_of pools media line (before ++ found) fields ≡ behind before (items_of pools media line found fields)
+-- where no item is left, all are read
+pub all_read : (pools : List PoolLine) (media : Field) (line : ℕ) (found : List VsnExpr) → items_of pools media line found [] ≡ Ok found
 unfolding items_of
-found_before pools media line before found [] = refl
-found_before pools media line before found (field ∷ []) = last_found (bytes_eq field (codes "-pool")) before found (expr_of media line field)
-found_before pools media line before found (field ∷ next ∷ fields) = more_found (bytes_eq field (codes "-pool")) (is_pool pools next) before _ _ _ _
-    (ap (λ (now : List VsnExpr). items_of pools media line now fields) (append_assoc before found (pool_exprs pools media next)) ∙ found_before pools media line before (found ++ pool_exprs pools media next) fields)
-    (ap (λ (now : List VsnExpr). items_of pools media line now (next ∷ fields)) (append_assoc before found (expr_of media line field ∷ [])) ∙ found_before pools media line before (found ++ expr_of media line field ∷ []) (next ∷ fields))
+all_read pools media line found = refl
 
-from_found : (pools : List PoolLine) (media : Field) (line : ℕ) (found : List VsnExpr) (fields : List Field) → items_of pools media line found fields ≡ behind found (items_of pools media line [] fields)
-from_found pools media line found fields = ap (λ (now : List VsnExpr). items_of pools media line now fields) (sym (append-nil found)) ∙ found_before pools media line found [] fields
+-- ---- how many there are
 
--- ---- tests alone
+-- the lines of a pool up to a place have no more than all of them
+pub pool_reached : (pools : List PoolLine) (media pool : Field) (line : PoolLine) (place : ℕ) → place < length pools → line ≡ get_or pools place line → is_of_pool pool media line ≡ true
+    → length (pool_exprs (take place pools) media pool) + length line.texts ≤ length (pool_exprs pools media pool)
+pool_reached pools media pool line place within is of_pool =
+    let at : length (exprs_at pool media line) ≡ length line.texts = rw of_pool (length-map line.texts (expr_of line.media line.line)) in
+    let here : length (exprs_at pool media (get_or pools place line)) ≡ length line.texts = ap (λ (p : PoolLine). length (exprs_at pool media p)) (sym is) ∙ at in
+    omega (arith, here, length-flat_map-take (exprs_at pool media) pools place line within)
 
-tested_behind : (before : List VsnExpr) (read : Read (List VsnExpr)) → tested (behind before read) ≡ tested read
-tested_behind before (Ok exprs) = refl
-tested_behind before (Err fault) = refl
+-- an expression is one
+pub alone_counted : (pools : List PoolLine) (media field : Field) (fields : List Field) → bytes_eq field (codes "-pool") ≡ false
+    → items_count pools media (field ∷ fields) ≡ 1 + items_count pools media fields
+unfolding items_count
+alone_counted pools media field [] is = rw is refl
+alone_counted pools media field (next ∷ fields) is = rw is refl
 
-tested_from : (pools : List PoolLine) (media : Field) (line : ℕ) (found : List VsnExpr) (fields : List Field) → tested (items_of pools media line found fields) ≡ tested (items_of pools media line [] fields)
-tested_from pools media line found fields = ap tested (from_found pools media line found fields) ∙ tested_behind found (items_of pools media line [] fields)
+pub pool_counted : (pools : List PoolLine) (media field pool : Field) (fields rest : List Field) → bytes_eq field (codes "-pool") ≡ true → fields ≡ pool ∷ rest
+    → items_count pools media (field ∷ fields) ≡ length (pool_exprs pools media pool) + items_count pools media rest
+unfolding items_count
+pool_counted pools media field pool fields rest is cut = rw (cut, is) refl
 
--- an expression is never wrong
-pub alone_tested : (pools : List PoolLine) (media : Field) (line : ℕ) (field : Field) (fields : List Field) → bytes_eq field (codes "-pool") ≡ false
-    → tested (items_of pools media line [] (field ∷ fields)) ≡ tested (items_of pools media line [] fields)
-alone_tested pools media line field fields is = ap tested (item_alone pools media line [] field fields is) ∙ tested_from pools media line (expr_of media line field ∷ []) fields
+-- `-pool` without its pool says none
+pub missing_counted : (pools : List PoolLine) (media field : Field) (fields : List Field) → bytes_eq field (codes "-pool") ≡ true → fields ≡ []
+    → items_count pools media (field ∷ fields) ≡ items_count pools media fields
+unfolding items_count
+missing_counted pools media field fields is none = rw (none, is) refl
 
--- nor is a pool that is known
-pub pool_tested : (pools : List PoolLine) (media : Field) (line : ℕ) (field pool : Field) (fields rest : List Field) → bytes_eq field (codes "-pool") ≡ true → fields ≡ pool ∷ rest → is_pool pools pool ≡ true
-    → tested (items_of pools media line [] (field ∷ fields)) ≡ tested (items_of pools media line [] rest)
-pool_tested pools media line field pool fields rest is cut known = ap tested (item_pool pools media line [] field pool fields rest is cut known) ∙ tested_from pools media line (pool_exprs pools media pool) rest
+-- so many are read, unless an item is wrong
+abbrev pub Counts : ℕ → Read (List VsnExpr) → Type 0
+Counts count (Ok exprs) = length exprs ≡ count
+Counts count (Err fault) = Unit {0}
 
--- ---- the room
+step_counted : (pools : List PoolLine) (media : Field) (line : ℕ) (found : List VsnExpr) (field next : Field) (fields : List Field) (pool known : Bool) → bytes_eq field (codes "-pool") ≡ pool → is_pool pools next ≡ known
+    → Counts (length (found ++ pool_exprs pools media next) + items_count pools media fields) (items_of pools media line (found ++ pool_exprs pools media next) fields)
+    → Counts (length (found ++ expr_of media line field ∷ []) + items_count pools media (next ∷ fields)) (items_of pools media line (found ++ expr_of media line field ∷ []) (next ∷ fields))
+    → Counts (length found + items_count pools media (field ∷ next ∷ fields)) (items_of pools media line found (field ∷ next ∷ fields))
+unfolding items_of items_count
+step_counted pools media line found field next fields true true p k by_pool by_expr = rw (p, k) (subst (λ (n : ℕ). Counts n (items_of pools media line (found ++ pool_exprs pools media next) fields)) (omega (arith, length-append found (pool_exprs pools media next))) by_pool)
+step_counted pools media line found field next fields true false p k by_pool by_expr = rw (p, k) tt
+step_counted pools media line found field next fields false known p k by_pool by_expr = rw p (subst (λ (n : ℕ). Counts n (items_of pools media line (found ++ expr_of media line field ∷ []) (next ∷ fields))) (omega (arith, length-append found (expr_of media line field ∷ []))) by_expr)
 
-over_read : (room : ℕ) (before : List VsnExpr) (read : Read (List VsnExpr)) → Ok tt ≡ tested read → room < length before → in_room room (behind before read) ≡ Err TooMany
-over_read room before (Ok exprs) is over =
-    let more : ltb room (length (before ++ exprs)) ≡ true = lt-ltb room (length (before ++ exprs)) (omega (arith, length-append before exprs)) in
-    rw more refl
-over_read room before (Err fault) is over = absurd cc
+last_counted : (pools : List PoolLine) (media : Field) (line : ℕ) (found : List VsnExpr) (field : Field) (pool : Bool) → bytes_eq field (codes "-pool") ≡ pool
+    → Counts (length found + items_count pools media (field ∷ [])) (items_of pools media line found (field ∷ []))
+unfolding items_of items_count
+last_counted pools media line found field true p = rw p tt
+last_counted pools media line found field false p = rw p (omega (arith, length-append found (expr_of media line field ∷ [])))
 
-wrong_read : (room : ℕ) (before : List VsnExpr) (read : Read (List VsnExpr)) (fault : ConfFault) → Err fault ≡ tested read → in_room room (behind before read) ≡ Err fault
-wrong_read room before (Ok exprs) fault is = absurd cc
-wrong_read room before (Err other) fault is = cc
+-- So many are read as the items say, behind those that were found before.
+pub items_counted : (pools : List PoolLine) (media : Field) (line : ℕ) (found : List VsnExpr) (fields : List Field) → Counts (length found + items_count pools media fields) (items_of pools media line found fields)
+unfolding items_of items_count
+items_counted pools media line found [] = omega arith
+items_counted pools media line found (field ∷ []) = last_counted pools media line found field (bytes_eq field (codes "-pool")) refl
+items_counted pools media line found (field ∷ next ∷ fields) = step_counted pools media line found field next fields (bytes_eq field (codes "-pool")) (is_pool pools next) refl refl
+    (items_counted pools media line (found ++ pool_exprs pools media next) fields)
+    (items_counted pools media line (found ++ expr_of media line field ∷ []) (next ∷ fields))
 
--- there are too many where too many were found before, and no item behind is wrong
-pub over_room : (pools : List PoolLine) (media : Field) (line room : ℕ) (found : List VsnExpr) (fields : List Field) → Ok tt ≡ tested (items_of pools media line [] fields) → room < length found
-    → in_room room (items_of pools media line found fields) ≡ Err TooMany
-over_room pools media line room found fields fine over = ap (in_room room) (from_found pools media line found fields) ∙ over_read room found (items_of pools media line [] fields) fine over
-
--- a fault behind goes first
-pub wrong_behind : (pools : List PoolLine) (media : Field) (line room : ℕ) (found : List VsnExpr) (fields : List Field) (fault : ConfFault) → Err fault ≡ tested (items_of pools media line [] fields)
-    → in_room room (items_of pools media line found fields) ≡ Err fault
-wrong_behind pools media line room found fields fault wrong = ap (in_room room) (from_found pools media line found fields) ∙ wrong_read room found (items_of pools media line [] fields) fault wrong
-
--- where nothing is left, all that was found fits
-pub all_fit : (pools : List PoolLine) (media : Field) (line room : ℕ) (found : List VsnExpr) → length found ≤ room → in_room room (items_of pools media line found []) ≡ Ok found
-unfolding items_of
-all_fit pools media line room found fits =
-    let none : ltb room (length found) ≡ false = le-ltb room (length found) fits in
-    rw none refl
+-- what is read of a line's fields is as many as they say
+pub read_counted : (pools : List PoolLine) (media : Field) (line : ℕ) (fields : List Field) (exprs : List VsnExpr) → items_of pools media line [] fields ≡ Ok exprs → exprs_count pools (media ∷ fields) ≡ length exprs
+unfolding exprs_count
+read_counted pools media line fields exprs is =
+    let none_before : length {A = VsnExpr} [] + items_count pools media fields ≡ items_count pools media fields = omega arith in
+    sym (subst (Counts (items_count pools media fields)) is (subst (λ (n : ℕ). Counts n (items_of pools media line [] fields)) none_before (items_counted pools media line [] fields)))

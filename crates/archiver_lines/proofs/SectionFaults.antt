@@ -1,5 +1,5 @@
 -- Lines of params and vsns are refused as what is wrong with them.
-use Rattle.std.proofs.Common.{◌≡◌, ℕ, ◌<◌, Bool, true, false, List, [], ◌∷◌, length, Ok, Err, refl, sym, ap, ◌∙◌, ◌⊎◌, inl, inr}
+use Rattle.std.proofs.Common.{◌≡◌, ℕ, ◌<◌, ◌≤◌, Bool, true, false, List, [], ◌∷◌, Ok, Err, refl, sym, ap, ◌∙◌, ◌⊎◌, inl, inr}
 use Rattle.std.specs.Prelude.{not, nat_lt}
 use Rattle.std.proofs.lemmas.Bool.{ltb-true, lt-ltb}
 use Rattle.site_text.specs.declared.fault.ConfFault.{ConfFault}
@@ -7,22 +7,22 @@ use Rattle.site_text.specs.declared.fault.ConfFault.TheVariants.{MissingField, B
 use Rattle.site_text.specs.Values.{is_media}
 use Rattle.site_text.specs.Fields.{Field, Read, ◌>>=◌, map_read, next_field, refuse_if}
 use Rattle.site_text.specs.Options.{options_of}
-use Rattle.site_text.proofs.OptionLaws.{options_said, options_read, options_wrong, options_refused}
+use Rattle.site_text.proofs.OptionLaws.{options_wrong, options_refused}
 use Rattle.archiver_lines.specs.declared.param_options.Given.{Given}
 use Rattle.archiver_lines.specs.declared.reading.CopyName.{CopyName}
 use Rattle.archiver_lines.specs.declared.reading.Reading.{Reading}
 use Rattle.archiver_lines.specs.declared.reading.ParamsLine.{ParamsLine}
 use Rattle.archiver_lines.specs.declared.reading.VsnExpr.{VsnExpr}
-use Rattle.archiver_lines.specs.declared.reading.VsnsLine.{VsnsLine}
 use Rattle.archiver_lines.specs.Names.{copy_name}
 use Rattle.archiver_lines.specs.ParamOptions.{params_table}
-use Rattle.archiver_lines.specs.SectionLines.{item_table, items_of, all_exprs, params_line, vsns_line}
+use Rattle.archiver_lines.specs.SectionLines.{item_table, items_of, all_exprs, exprs_count, params_line, vsns_line}
 use Rattle.archiver_lines.specs.Told.{file_systems_of, sets_of, params_of, pools_of, room_of}
 use Rattle.archiver_lines.specs.Parts.{NameSays}
 use Rattle.archiver_lines.specs.Wrong.{ParamsWrong, ItemsWrong, BehindName, VsnsWrong}
 use Rattle.archiver_lines.proofs.NameLaws.{name_read, name_said}
 use Rattle.archiver_lines.proofs.NameFaults.{name_wrong, name_refused}
-use Rattle.archiver_lines.proofs.SectionLaws.{params_read_of, params_told, vsns_read_of, vsns_told, fits_read, exprs_read, some_read, legal_read, items_are, some_fields}
+use Rattle.archiver_lines.proofs.SectionLaws.{params_read_of, params_told, vsns_read_of, exprs_read, some_read, media_read, room_read, items_are, some_fields}
+use Rattle.archiver_lines.proofs.Tests.{not_less, is_not_less}
 use Rattle.archiver_lines.proofs.Faults.{bind_err}
 
 -- ---- params
@@ -61,13 +61,6 @@ by_table : (before : List Reading) (number : ℕ) (media : Field) (items : List 
     → items_of (pools_of before) media number [] items ≡ map_read all_exprs read
 by_table before number media items read is = items_are (pools_of before) media number [] items ∙ ap (map_read all_exprs) is
 
-room_wrong : (before : List Reading) (name : CopyName) (exprs : List VsnExpr) (fault : ConfFault) → fits_read before name exprs ≡ Err fault → (room_of before < length exprs) × (fault ≡ TooMany)
-room_wrong before name exprs fault is = go (nat_lt (room_of before) (length exprs)) refl is
-  where
-    go : (b : Bool) → nat_lt (room_of before) (length exprs) ≡ b → (refuse_if b TooMany >>= λ u. Ok (vsns_told name exprs)) ≡ Err fault → (room_of before < length exprs) × (fault ≡ TooMany)
-    go true p is = (ltb-true _ _ p, (let e : TooMany ≡ fault = cc in sym e))
-    go false p is = absurd cc
-
 abbrev media_of : Field → List Field → Field × List Field
 media_of media items = (media, items)
 
@@ -79,20 +72,13 @@ items_wrong before number name media (item ∷ items) fault is =
     go : (read : Read (List (List VsnExpr))) → options_of (item_table (pools_of before) media number) [] (item ∷ items) ≡ read → exprs_read before number name (media_of media (item ∷ items)) ≡ Err fault → ItemsWrong before number media (item ∷ items) fault
     go (Err first) e is =
         let d : first ≡ fault = (let h = rw (by_table before number media (item ∷ items) (Err first) e) at is in cc) in
-        inl (options_wrong (item_table (pools_of before) media number) [] (item ∷ items) fault (e ∙ ap (λ (f : ConfFault). Err f) d))
-    go (Ok given) e is =
-        let r = room_wrong before name (all_exprs given) fault (rw (by_table before number media (item ∷ items) (Ok given) e) at is) in
-        inr (given, options_said (item_table (pools_of before) media number) [] (item ∷ items) given e, r.0, r.1)
+        options_wrong (item_table (pools_of before) media number) [] (item ∷ items) fault (e ∙ ap (λ (f : ConfFault). Err f) d)
+    go (Ok given) e is = (let h = rw (by_table before number media (item ∷ items) (Ok given) e) at is in absurd cc)
 
 items_refused : (before : List Reading) (number : ℕ) (name : CopyName) (media : Field) (items : List Field) (fault : ConfFault) → ItemsWrong before number media items fault → some_read before number name (media_of media items) ≡ Err fault
 items_refused before number name media [] fault is = rw is refl
-items_refused before number name media (item ∷ items) fault (inl wrong) =
+items_refused before number name media (item ∷ items) fault wrong =
     rw (some_fields item items, by_table before number media (item ∷ items) (Err fault) (options_refused (item_table (pools_of before) media number) [] (item ∷ items) fault wrong)) refl
-items_refused before number name media (item ∷ items) fault (inr (given, say, room, is)) =
-    rw (some_fields item items, by_table before number media (item ∷ items) (Ok given) (options_read (item_table (pools_of before) media number) [] (item ∷ items) given say), lt-ltb _ _ room, is) refl
-
-abbrev media_read : List Reading → ℕ → CopyName → List Field → Read VsnsLine
-media_read before number name fields = next_field fields >>= λ media. legal_read before number name media
 
 media_wrong : (before : List Reading) (number : ℕ) (name : CopyName) (fields : List Field) (fault : ConfFault) → media_read before number name fields ≡ Err fault → BehindName before number fields fault
 unfolding next_field
@@ -109,15 +95,31 @@ media_refused before number name [] fault is = rw is refl
 media_refused before number name (media ∷ items) fault (inl (illegal, is)) = rw (illegal, is) refl
 media_refused before number name (media ∷ items) fault (inr (legal, wrong)) = rw legal (items_refused before number name media items fault wrong)
 
+-- what is wrong behind a name, the room first
+abbrev RoomWrong : List Reading → ℕ → List Field → ConfFault → Type 0
+RoomWrong before number fields fault = ((room_of before < exprs_count (pools_of before) fields) × (fault ≡ TooMany))
+    ⊎ ((exprs_count (pools_of before) fields ≤ room_of before) × BehindName before number fields fault)
+
+room_wrong : (before : List Reading) (number : ℕ) (name : CopyName) (fields : List Field) (fault : ConfFault) → room_read before number name fields ≡ Err fault → RoomWrong before number fields fault
+room_wrong before number name fields fault is = go (nat_lt (room_of before) (exprs_count (pools_of before) fields)) refl is
+  where
+    go : (b : Bool) → nat_lt (room_of before) (exprs_count (pools_of before) fields) ≡ b → (refuse_if b TooMany >>= λ u. media_read before number name fields) ≡ Err fault → RoomWrong before number fields fault
+    go true p is = inl (ltb-true _ _ p, (let e : TooMany ≡ fault = cc in sym e))
+    go false p is = inr (is_not_less _ _ p, media_wrong before number name fields fault is)
+
+room_refused : (before : List Reading) (number : ℕ) (name : CopyName) (fields : List Field) (fault : ConfFault) → RoomWrong before number fields fault → room_read before number name fields ≡ Err fault
+room_refused before number name fields fault (inl (over, is)) = rw (lt-ltb _ _ over, is) refl
+room_refused before number name fields fault (inr (fits, wrong)) = rw (not_less _ _ fits) (media_refused before number name fields fault wrong)
+
 pub vsns_wrong : (site : Field) (before : List Reading) (number : ℕ) (field : Field) (fields : List Field) (fault : ConfFault) → vsns_read_of site before number field fields ≡ Err fault → VsnsWrong site before number field fields fault
 unfolding vsns_line
-vsns_wrong site before number field fields fault is = go (bind_err (named_read site before field) (λ name. media_read before number name fields) fault is)
+vsns_wrong site before number field fields fault is = go (bind_err (named_read site before field) (λ name. room_read before number name fields) fault is)
   where
-    go : (named_read site before field ≡ Err fault) ⊎ ((name : CopyName) × (named_read site before field ≡ Ok name) × (media_read before number name fields ≡ Err fault)) → VsnsWrong site before number field fields fault
+    go : (named_read site before field ≡ Err fault) ⊎ ((name : CopyName) × (named_read site before field ≡ Ok name) × (room_read before number name fields ≡ Err fault)) → VsnsWrong site before number field fields fault
     go (inl e) = inl (name_wrong site before field fault e)
-    go (inr (name, e, rest)) = inr (name, name_said site before field name e, media_wrong before number name fields fault rest)
+    go (inr (name, e, rest)) = inr (name, name_said site before field name e, room_wrong before number name fields fault rest)
 
 pub vsns_refused : (site : Field) (before : List Reading) (number : ℕ) (field : Field) (fields : List Field) (fault : ConfFault) → VsnsWrong site before number field fields fault → vsns_read_of site before number field fields ≡ Err fault
 unfolding vsns_line
 vsns_refused site before number field fields fault (inl wrong) = rw (name_refused site before field fault wrong) refl
-vsns_refused site before number field fields fault (inr (name, says, wrong)) = rw (name_read site before field name says) (media_refused before number name fields fault wrong)
+vsns_refused site before number field fields fault (inr (name, says, wrong)) = rw (name_read site before field name says) (room_refused before number name fields fault wrong)

@@ -1,5 +1,5 @@
 -- Lines of params and vsns are read as what they say, and say what they are read as.
-use Rattle.std.proofs.Common.{◌≡◌, ℕ, Bool, true, false, cond, List, [], ◌∷◌, ◌++◌, length, Ok, Err, refl, sym, ap, subst, ◌∙◌, codes, arith}
+use Rattle.std.proofs.Common.{◌≡◌, ℕ, ◌≤◌, Bool, true, false, cond, List, [], ◌∷◌, ◌++◌, length, Ok, Err, refl, sym, ap, subst, ◌∙◌, codes, arith}
 use Rattle.std.specs.Prelude.{◌==◌, not, nat_lt}
 use Rattle.std.specs.Str.{bytes_eq}
 use Rattle.std.proofs.lemmas.Grind.{flat_map-append}
@@ -19,12 +19,13 @@ use Rattle.archiver_lines.specs.declared.reading.VsnExpr.{VsnExpr}
 use Rattle.archiver_lines.specs.declared.reading.VsnsLine.{VsnsLine}
 use Rattle.archiver_lines.specs.Names.{copy_name}
 use Rattle.archiver_lines.specs.ParamOptions.{params_table}
-use Rattle.archiver_lines.specs.SectionLines.{expr_of, pool_exprs, is_pool, item_table, items_of, all_exprs, params_line, vsns_line}
+use Rattle.archiver_lines.specs.SectionLines.{expr_of, pool_exprs, is_pool, item_table, items_of, all_exprs, exprs_count, params_line, vsns_line}
 use Rattle.archiver_lines.specs.Told.{file_systems_of, sets_of, params_of, pools_of, room_of}
 use Rattle.archiver_lines.specs.Says.{ParamsSays, VsnsSays}
 use Rattle.archiver_lines.proofs.Tests.{bind_ok, not_refused, not_false, not_less, is_not_less}
 use Rattle.archiver_lines.proofs.NameLaws.{name_read, name_said}
 use Rattle.archiver_lines.proofs.AssignLaws.{next_said}
+use Rattle.archiver_lines.proofs.Items.{read_counted}
 
 -- ---- params
 
@@ -106,7 +107,9 @@ some_fields f fs = some_step f fs (length (f ∷ fs) == 0) refl
 pub vsns_read : (site : Field) (before : List Reading) (number : ℕ) (field : Field) (fields : List Field) (line : VsnsLine) → VsnsSays site before number field fields line → vsns_read_of site before number field fields ≡ Ok line
 unfolding vsns_line next_field
 vsns_read site before number field fields line s =
-    rw (name_read site before field line.name s.name, s.cut, s.legal, some_fields s.first s.rest, items_read (pools_of before) s.media number (s.first ∷ s.rest) s.given line.exprs s.items s.is, not_less (room_of before) (length line.exprs) s.room) refl
+    let read = items_read (pools_of before) s.media number (s.first ∷ s.rest) s.given line.exprs s.items s.is in
+    let count = read_counted (pools_of before) s.media number (s.first ∷ s.rest) line.exprs read in
+    rw (name_read site before field line.name s.name, s.cut, count, not_less (room_of before) (length line.exprs) s.room, s.legal, some_fields s.first s.rest, read) refl
 
 given_said : (pools : List PoolLine) (media : Field) (line : ℕ) (fields : List Field) (exprs : List VsnExpr) (read : Read (List (List VsnExpr))) → options_of (item_table pools media line) [] fields ≡ read → map_read all_exprs read ≡ Ok exprs
     → (given : List (List VsnExpr)) × OptionsSay (item_table pools media line) [] fields given × (exprs ≡ all_exprs given)
@@ -120,17 +123,24 @@ items_said pools media line fields exprs is = given_said pools media line fields
 abbrev pub vsns_told : CopyName → List VsnExpr → VsnsLine
 vsns_told name exprs = record { name = name; exprs = exprs }
 
-abbrev pub fits_read : List Reading → CopyName → List VsnExpr → Read VsnsLine
-fits_read before name exprs = refuse_if (nat_lt (room_of before) (length exprs)) TooMany >>= λ u. Ok (vsns_told name exprs)
+abbrev pub told_vsns : CopyName → List VsnExpr → Read VsnsLine
+told_vsns name exprs = Ok (vsns_told name exprs)
 
 abbrev pub exprs_read : List Reading → ℕ → CopyName → Field × List Field → Read VsnsLine
-exprs_read before number name media = items_of (pools_of before) media.0 number [] media.1 >>= λ exprs. fits_read before name exprs
+exprs_read before number name media = items_of (pools_of before) media.0 number [] media.1 >>= λ exprs. told_vsns name exprs
 
 abbrev pub some_read : List Reading → ℕ → CopyName → Field × List Field → Read VsnsLine
 some_read before number name media = refuse_if (length media.1 == 0) MissingField >>= λ u. exprs_read before number name media
 
 abbrev pub legal_read : List Reading → ℕ → CopyName → Field × List Field → Read VsnsLine
 legal_read before number name media = refuse_if (not (is_media media.0)) BadValue >>= λ u. some_read before number name media
+
+abbrev pub media_read : List Reading → ℕ → CopyName → List Field → Read VsnsLine
+media_read before number name fields = next_field fields >>= λ media. legal_read before number name media
+
+-- where there is room for what these fields say
+abbrev pub room_read : List Reading → ℕ → CopyName → List Field → Read VsnsLine
+room_read before number name fields = refuse_if (nat_lt (room_of before) (exprs_count (pools_of before) fields)) TooMany >>= λ u. media_read before number name fields
 
 abbrev Split : List Field → Type 0
 Split fields = (first : Field) × (rest : List Field) × (fields ≡ first ∷ rest)
@@ -142,24 +152,26 @@ not_empty (f ∷ fs) is = (f, fs, refl)
 pub vsns_said : (site : Field) (before : List Reading) (number : ℕ) (field : Field) (fields : List Field) (line : VsnsLine) → vsns_read_of site before number field fields ≡ Ok line → VsnsSays site before number field fields line
 unfolding vsns_line
 vsns_said site before number field fields line is =
-    let n = bind_ok (copy_name site (file_systems_of before) (sets_of before) field) (λ name. next_field fields >>= λ media. legal_read before number name media) line is in
-    let m = bind_ok (next_field fields) (λ media. legal_read before number n.0 media) line n.2 in
+    let n = bind_ok (copy_name site (file_systems_of before) (sets_of before) field) (λ name. room_read before number name fields) line is in
+    let r = bind_ok (refuse_if (nat_lt (room_of before) (exprs_count (pools_of before) fields)) TooMany) (λ u. media_read before number n.0 fields) line n.2 in
+    let m = bind_ok (next_field fields) (λ media. legal_read before number n.0 media) line r.2 in
     let l = bind_ok (refuse_if (not (is_media m.0.0)) BadValue) (λ u. some_read before number n.0 m.0) line m.2 in
     let s = bind_ok (refuse_if (length m.0.1 == 0) MissingField) (λ u. exprs_read before number n.0 m.0) line l.2 in
-    let x = bind_ok (items_of (pools_of before) m.0.0 number [] m.0.1) (λ exprs. fits_read before n.0 exprs) line s.2 in
-    let r = bind_ok (refuse_if (nat_lt (room_of before) (length x.0)) TooMany) (λ u. Ok (vsns_told n.0 x.0)) line x.2 in
-    let e : vsns_told n.0 x.0 ≡ line = (let h = r.2 in cc) in
+    let x = bind_ok (items_of (pools_of before) m.0.0 number [] m.0.1) (λ exprs. told_vsns n.0 exprs) line s.2 in
+    let e : vsns_told n.0 x.0 ≡ line = (let h = x.2 in cc) in
     let g = items_said (pools_of before) m.0.0 number m.0.1 x.0 x.1 in
     let split = not_empty m.0.1 (not_refused _ MissingField s.0 s.1) in
+    let cut = next_said fields m.0 m.1 in
+    let count : exprs_count (pools_of before) fields ≡ length x.0 = ap (exprs_count (pools_of before)) cut ∙ read_counted (pools_of before) m.0.0 number m.0.1 x.0 x.1 in
     subst (VsnsSays site before number field fields) e (record {
       name = name_said site before field n.0 n.1;
       media = m.0.0;
       first = split.0;
       rest = split.1;
-      cut = next_said fields m.0 m.1 ∙ ap (λ (fs : List Field). m.0.0 ∷ fs) split.2;
+      cut = cut ∙ ap (λ (fs : List Field). m.0.0 ∷ fs) split.2;
       legal = not_false _ (not_refused _ BadValue l.0 l.1);
       given = g.0;
       items = subst (λ (fs : List Field). OptionsSay (item_table (pools_of before) m.0.0 number) [] fs g.0) split.2 g.1;
       is = g.2;
-      room = is_not_less (room_of before) (length x.0) (not_refused _ TooMany r.0 r.1);
+      room = subst (λ (n : ℕ). n ≤ room_of before) count (is_not_less (room_of before) (exprs_count (pools_of before) fields) (not_refused _ TooMany r.0 r.1));
     })

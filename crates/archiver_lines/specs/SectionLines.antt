@@ -1,5 +1,5 @@
 -- Lines of sections.
-use Rattle.std.specs.Prelude.{ℕ, List, [], ◌∷◌, ◌++◌, codes, length, map, flat_map, drop, Some, Ok, Err, Bool, true, false, ◌==◌, ◌&&◌, not, nat_lt, if◌then◌else◌}
+use Rattle.std.specs.Prelude.{ℕ, List, [], ◌∷◌, ◌++◌, ◌+◌, codes, length, map, flat_map, drop, Some, Ok, Err, Bool, true, false, ◌==◌, ◌&&◌, not, nat_lt, if◌then◌else◌}
 use Rattle.std.specs.List.{list_any}
 use Rattle.std.specs.Str.{bytes_eq}
 use Rattle.site_text.specs.declared.fault.ConfFault.TheVariants.{MissingField, BadValue, UnknownPool, TooMany}
@@ -95,26 +95,29 @@ items_of pools media line found (field ∷ next ∷ fields) = if bytes_eq field 
 abbrev pub all_exprs : List (List VsnExpr) → List VsnExpr
 all_exprs given = flat_map (λ exprs. exprs) given
 
--- whether expressions are read, or the fault
-abbrev pub tested : Read (List VsnExpr) → Read (Unit {0})
-tested read = do
-  exprs ← read
-  Ok tt
+-- ---- how many expressions
 
--- expressions that were read, where there is room for so many
-abbrev pub in_room : ℕ → Read (List VsnExpr) → Read (List VsnExpr)
-in_room room read = do
-  exprs ← read
-  fits ← refuse_if (nat_lt room (length exprs)) TooMany
-  Ok exprs
+-- How many expressions items say, whatever is wrong with them: an expression is one, and `-pool POOL` is as many as the pool has with
+-- that media type.
+unfoldable pub items_count : List PoolLine → Field → List Field → ℕ
+items_count pools media [] = 0
+items_count pools media (field ∷ []) = if bytes_eq field (codes "-pool") then 0 else 1
+items_count pools media (field ∷ next ∷ fields) = if bytes_eq field (codes "-pool")
+    then length (pool_exprs pools media next) + items_count pools media fields
+    else 1 + items_count pools media (next ∷ fields)
+
+-- the same of the fields behind a name, a media type and items
+unfoldable pub exprs_count : List PoolLine → List Field → ℕ
+exprs_count pools [] = 0
+exprs_count pools (media ∷ items) = items_count pools media items
 
 -- `NAME MEDIA` and one or more items, where there is room for so many expressions
 unfoldable pub vsns_line : Field → List Field → List Field → List PoolLine → ℕ → ℕ → Field → List Field → Read VsnsLine
 vsns_line site file_systems sets pools room number field fields = do
   name ← copy_name site file_systems sets field
+  fits ← refuse_if (nat_lt room (exprs_count pools fields)) TooMany
   media ← next_field fields
   legal ← refuse_if (not (is_media media.0)) BadValue
   items ← refuse_if (length media.1 == 0) MissingField
   exprs ← items_of pools media.0 number [] media.1
-  fits ← refuse_if (nat_lt room (length exprs)) TooMany
   Ok (record { name = name; exprs = exprs })

@@ -8,11 +8,10 @@ use Rattle.site_text.specs.Numbers.{number_in, number_within}
 use Rattle.site_text.specs.Ages.{age_of}
 use Rattle.site_text.specs.Values.{is_name, is_media}
 use Rattle.site_text.specs.Words.{is_option}
-use Rattle.site_text.specs.Options.{OptionsSay, OptionsWrong}
+use Rattle.site_text.specs.Options.{OptionsWrong}
 use Rattle.site_text.specs.Forms.{FormWrong}
 use Rattle.archiver_lines.specs.declared.reading.SetCopy.{SetCopy}
 use Rattle.archiver_lines.specs.declared.reading.CopyName.{CopyName}
-use Rattle.archiver_lines.specs.declared.reading.VsnExpr.{VsnExpr}
 use Rattle.archiver_lines.specs.declared.reading.Reading.{Reading}
 use Rattle.archiver_lines.specs.declared.reading.Section.{Section}
 use Rattle.archiver_lines.specs.declared.reading.Section.TheVariants.{Params, VsnPools, Vsns}
@@ -21,7 +20,7 @@ use Rattle.archiver_lines.specs.Paths.{is_set_path}
 use Rattle.archiver_lines.specs.Criteria.{criteria_table}
 use Rattle.archiver_lines.specs.ParamOptions.{params_table}
 use Rattle.archiver_lines.specs.CopyLines.{has_copy}
-use Rattle.archiver_lines.specs.SectionLines.{pool_form, item_table, all_exprs}
+use Rattle.archiver_lines.specs.SectionLines.{pool_form, item_table, exprs_count}
 use Rattle.archiver_lines.specs.Told.{file_systems_of, target_of, assignments_of, sets_of, copies_of, params_of, pools_of, room_of}
 use Rattle.archiver_lines.specs.Parts.{OptionSays, AgesSay, IsPlain, NameSays}
 
@@ -154,12 +153,10 @@ abbrev pub ParamsWrong : Field → List Reading → Field → List Field → Con
 ParamsWrong site before field fields fault = NameWrong site before field fault
     ⊎ ((name : CopyName) × NameSays site before field name × OptionsWrong (params_table (params_of before) name) [] fields fault)
 
--- There is no item, one is wrong, or what they say is more expressions than there is room for.
+-- There is no item, or one is wrong.
 abbrev pub ItemsWrong : List Reading → ℕ → Field → List Field → ConfFault → Type 0
 ItemsWrong before number media [] fault = fault ≡ MissingField
 ItemsWrong before number media (item ∷ items) fault = OptionsWrong (item_table (pools_of before) media number) [] (item ∷ items) fault
-    ⊎ ((given : List (List VsnExpr)) × OptionsSay (item_table (pools_of before) media number) [] (item ∷ items) given
-    × (room_of before < length (all_exprs given)) × (fault ≡ TooMany))
 
 -- There is no media type, it is not of its form, or behind it the items are wrong.
 abbrev pub BehindName : List Reading → ℕ → List Field → ConfFault → Type 0
@@ -167,10 +164,12 @@ BehindName before number [] fault = fault ≡ MissingField
 BehindName before number (media ∷ items) fault = ((is_media media ≡ false) × (fault ≡ BadValue))
     ⊎ ((is_media media ≡ true) × ItemsWrong before number media items fault)
 
--- The name is wrong, or what stands behind a name is.
+-- The name is wrong; or behind a name stand more expressions than there is room for; or there is room, and what stands there is wrong.
 abbrev pub VsnsWrong : Field → List Reading → ℕ → Field → List Field → ConfFault → Type 0
 VsnsWrong site before number field fields fault = NameWrong site before field fault
-    ⊎ ((name : CopyName) × NameSays site before field name × BehindName before number fields fault)
+    ⊎ ((name : CopyName) × NameSays site before field name
+    × (((room_of before < exprs_count (pools_of before) fields) × (fault ≡ TooMany))
+    ⊎ ((exprs_count (pools_of before) fields ≤ room_of before) × BehindName before number fields fault)))
 
 -- ---- lines
 

@@ -1,10 +1,10 @@
 //! Lines of sections.
 
-ghost use Rattle.std.specs.Prelude.{◌≡◌, ℕ, List as Seq, ◌++◌, ◌∷◌, ◌&&◌, [], ◌≤◌, length, OnOk, IfOk, IfErr, MatchOption, map, codes, true, false, Err};
+ghost use Rattle.std.specs.Prelude.{◌≡◌, ℕ, List as Seq, ◌++◌, ◌∷◌, ◌&&◌, [], ◌≤◌, ◌<◌, ◌+◌, nat_lt, length, OnOk, IfOk, IfErr, MatchOption, map, codes, true, false, Err};
 ghost use Rattle.std.specs.Str.{bytes_eq};
 ghost use Rattle.site_text.specs.Fields.{Gives, Fails};
 ghost use Rattle.site_text.specs.Forms.{read_form};
-ghost use Rattle.archiver_lines.specs.SectionLines.{expr_of, is_of_pool, exprs_at, pool_exprs, is_pool, items_of, tested, in_room, pool_form, params_line, vsns_line};
+ghost use Rattle.archiver_lines.specs.SectionLines.{expr_of, is_of_pool, exprs_at, pool_exprs, is_pool, items_of, items_count, exprs_count, pool_form, params_line, vsns_line};
 
 use crate::names::{SetNames, copy_name};
 use crate::param_options::read_param_options;
@@ -167,39 +167,74 @@ fn add_item(
     Ok(())
 }
 
-/// Tests the items, as reading them does, and copies nothing.
-#[tactic(auto, using(crate::proofs::Items::alone_tested, crate::proofs::Items::pool_tested))]
-fn test_items(items: &Items, fields: Fields) -> Result<(), ConfFault>
-    ensures { result ≡ tested (items_of items.now.pools.now items.now.media.now items.now.line [] fields.entry) }
-{
-    let mut fields = fields;
-    while let Some(first) = fields.take() {
-        pool_of_item(items.pools, first, &mut fields)?;
-    }
-    Ok(())
-}
-
-/// The expressions of all items, where there is room for so many. The first item beyond the room is the last that is copied.
-#[tactic(auto, using(crate::proofs::Items::over_room, crate::proofs::Items::wrong_behind, crate::proofs::Items::all_fit))]
-fn vsn_items(
-    alloc: Global,
-    items: &Items,
-    room: usize,
-    fields: Fields,
-) -> Result<List<VsnExpr>, LineError>
-    ensures { Gives (λ exprs. exprs) result (in_room room (items_of items.now.pools.now items.now.media.now items.now.line [] fields.entry)) }
+/// The expressions of all items.
+#[tactic(auto, using(crate::proofs::Items::all_read))]
+fn vsn_items(alloc: Global, items: &Items, fields: Fields) -> Result<List<VsnExpr>, LineError>
+    ensures { Gives (λ exprs. exprs) result (items_of items.now.pools.now items.now.media.now items.now.line [] fields.entry) }
 {
     let mut found = List::new(alloc);
     let mut fields = fields;
     while let Some(first) = fields.take() {
         add_item(alloc, items, &mut found, first, &mut fields)?;
-        if room < found.len() {
-            // A fault of an item behind goes first. No more is copied: each item may name a large pool.
-            test_items(items, fields)?;
-            return Err(LineError::Fault(ConfFault::TooMany));
-        }
     }
     Ok(found)
+}
+
+/// The room that is left behind the expressions of a pool with a media type, if there is room for them.
+#[tactic(auto, using(crate::proofs::Items::pool_reached))]
+fn room_behind_pool(pools: &[PoolLine], pool: &[u8], media: &[u8], room: usize) -> Option<usize>
+    ensures { MatchOption result (room < length (pool_exprs pools.now media.now pool.now)) (λ left. left + length (pool_exprs pools.now media.now pool.now) ≡ room) }
+{
+    let mut left = room;
+    for line in pools {
+        if is_of_pool(pool, media, line) {
+            left = left.checked_sub(line.texts.len())?;
+        }
+    }
+    Some(left)
+}
+
+/// The room that is left behind what the first item says, if there is room for it.
+#[tactic(auto, using(crate::proofs::Items::alone_counted, crate::proofs::Items::pool_counted, crate::proofs::Items::missing_counted))]
+fn room_behind_item(
+    pools: &[PoolLine],
+    media: &[u8],
+    room: usize,
+    first: &[u8],
+    fields: &mut Fields,
+) -> Option<usize>
+    ensures counted { MatchOption result
+        (room < items_count pools.now media.now (first.now ∷ fields.old))
+        (λ left. left + items_count pools.now media.now (first.now ∷ fields.old) ≡ room + items_count pools.now media.now fields.new) }
+    ensures shorter { length fields.new ≤ length fields.old }
+{
+    if first != b"-pool".as_slice() {
+        return room.checked_sub(1);
+    }
+    match fields.take() {
+        Some(pool) => room_behind_pool(pools, pool, media, room),
+        None => Some(room),
+    }
+}
+
+/// The fields behind the name of a vsns line say more expressions than there is room for. It counts no further than the room, and
+/// copies nothing: each item may name a large pool.
+#[tactic(auto, unfolding(crate::specs::SectionLines::exprs_count, crate::specs::SectionLines::items_count))]
+fn are_too_many(pools: &[PoolLine], room: usize, fields: &[Bytes]) -> bool
+    ensures { result ≡ nat_lt room (exprs_count pools.now fields.now) }
+{
+    let mut fields = Fields::new(fields);
+    let Some(media) = fields.take() else {
+        return false;
+    };
+    let mut left = room;
+    while let Some(first) = fields.take() {
+        match room_behind_item(pools, media, left, first, &mut fields) {
+            Some(behind) => left = behind,
+            None => return true,
+        }
+    }
+    false
 }
 
 /// `NAME MEDIA` and items, of at most so many expressions, behind these lines of vsnpools.
@@ -216,6 +251,7 @@ pub fn vsns_line(
     ensures { Gives (λ line. line) result (vsns_line names.now.site.now names.now.file_systems.now names.now.sets.now pools.now room number field.now fields.now) }
 {
     let name = copy_name(alloc, names, field)?;
+    refuse_if(are_too_many(pools, room, fields), ConfFault::TooMany)?;
     let [media, rest @ ..] = fields else {
         return Err(LineError::Fault(ConfFault::MissingField));
     };
@@ -227,6 +263,6 @@ pub fn vsns_line(
         media,
         line: number,
     };
-    let exprs = vsn_items(alloc, &items, room, Fields::new(rest))?;
+    let exprs = vsn_items(alloc, &items, Fields::new(rest))?;
     Ok(VsnsLine { name, exprs })
 }

@@ -78,8 +78,96 @@ const EXPRESSIONS: [Repeated; 6] = [
         b"vsnpools\np li",
         b" x",
         300,
-        b"\nendvsnpools\nvsns\nallsets li -pool p -pool q\nendvsns",
+        b"\nendvsnpools\nvsns\nallsets lt -pool p -pool p x\nendvsns",
+        None,
+    ),
+];
+
+/// Lines with another fault, which comes first at a name, and behind it only where there is room.
+const AROUND_THE_ROOM: [Repeated; 12] = [
+    (
+        b"vsns\nallsets.5 li",
+        b" x",
+        257,
+        b"",
+        Some((2, ConfFault::BadValue)),
+    ),
+    (
+        b"vsns\nb.1 li",
+        b" x",
+        257,
+        b"",
+        Some((2, ConfFault::UnknownSet)),
+    ),
+    (
+        b"vsns\nallsets LI",
+        b" x",
+        257,
+        b"",
+        Some((2, ConfFault::TooMany)),
+    ),
+    (
+        b"vsns\nallsets LI",
+        b" x",
+        256,
+        b"",
+        Some((2, ConfFault::BadValue)),
+    ),
+    (
+        b"vsns\nallsets li -pool q",
+        b" x",
+        257,
+        b"",
+        Some((2, ConfFault::TooMany)),
+    ),
+    (
+        b"vsns\nallsets li",
+        b" x",
+        256,
+        b" -pool q",
+        Some((2, ConfFault::UnknownPool)),
+    ),
+    (
+        b"vsns\nallsets li",
+        b" x",
+        257,
+        b" -pool",
+        Some((2, ConfFault::TooMany)),
+    ),
+    (
+        b"vsns\nallsets li",
+        b" x",
+        256,
+        b" -pool",
+        Some((2, ConfFault::MissingField)),
+    ),
+    (
+        b"vsns\nallsets li",
+        b" x",
+        256,
+        b"\nallsets",
+        Some((3, ConfFault::MissingField)),
+    ),
+    (
+        b"vsnpools\np li",
+        b" x",
+        300,
+        b"\nendvsnpools\nvsns\nallsets li -pool p -pool q",
+        Some((5, ConfFault::TooMany)),
+    ),
+    (
+        b"vsnpools\np li",
+        b" x",
+        300,
+        b"\nendvsnpools\nvsns\nallsets lt -pool p -pool q",
         Some((5, ConfFault::UnknownPool)),
+    ),
+    (
+        b"vsnpools\np li",
+        b" x",
+        300,
+        b"\nendvsnpools\nvsns\nallsets LI -pool p",
+        Some((5, ConfFault::BadValue)),
     ),
 ];
 
@@ -108,6 +196,16 @@ fn counts_lines(rt: HostRuntime) -> Result<(), Fail> {
 #[test]
 fn counts_expressions(rt: HostRuntime) -> Result<(), Fail> {
     for (front, part, times, end, want) in EXPRESSIONS {
+        let text = repeated(rt.alloc(), front, part, times, end)?;
+        assert_eq!(rt; refusal(rt.alloc(), text.as_slice())?, want);
+        assert_eq!(rt; plain_refusal(rt.alloc(), text.as_slice())?, want);
+    }
+    Ok(())
+}
+
+#[test]
+fn tells_the_first_fault_around_the_room(rt: HostRuntime) -> Result<(), Fail> {
+    for (front, part, times, end, want) in AROUND_THE_ROOM {
         let text = repeated(rt.alloc(), front, part, times, end)?;
         assert_eq!(rt; refusal(rt.alloc(), text.as_slice())?, want);
         assert_eq!(rt; plain_refusal(rt.alloc(), text.as_slice())?, want);
