@@ -1,6 +1,6 @@
 -- What the code's changes of the files and of the space make, in the words of steps.
 use Rattle.std.proofs.Common.{◌≡◌, ℕ, ◌+◌, ◌<◌, ◌≤◌, ◌^◌, min, List, [], ◌∷◌, ◌++◌, length, get_or, set, map, sym, ◌∙◌, ap, subst, arith, Bool, true, false, Option, Some, None, eqb-true}
-use Rattle.std.specs.Prelude.{◌==◌, position, slice_get, remove, is_some}
+use Rattle.std.specs.Prelude.{All, ◌==◌, position, slice_get, remove, is_some}
 use Rattle.std.specs.List.{list_any}
 use Rattle.std.specs.Option.{option_map_or}
 use Rattle.std.specs.Str.{bytes_eq}
@@ -9,7 +9,7 @@ use Rattle.records.specs.declared.file.Run.{Run}
 use Rattle.cache_space.specs.Space.{taken_by, AreApart}
 use Rattle.site_history.specs.Site.{Fields, Site, file_at, held_runs, with_file, cache_blocks}
 use Rattle.site_history.specs.Steps.{PutOf, stored_file, accessed_by, without_file, IsThere, IsLegalPut, next_after, put_effect}
-use Rattle.site_history.proofs.FileLaws.{with_file-new, with_file-set, accessed-set, without_file-remove, all_at, AreBelow}
+use Rattle.site_history.proofs.FileLaws.{with_file-new, with_file-set, accessed-set, without_file-remove, all_at, below_at, AreBelow}
 use Rattle.site_history.proofs.HeldRuns.{held-push, replaced-taken, replaced-apart, removed-taken, removed-apart}
 use Rattle.site_history.proofs.SiteLaws.{IsOrderly, IsKept}
 use Rattle.site_state.specs.declared.state.SiteState.{SiteState}
@@ -160,6 +160,13 @@ module _ (count : ℕ) (site : Site) (orderly : IsOrderly count site) (old : Sit
 
       new_fits : site.fields.next_inode ≤ 4294967294
       new_fits = ((inode_next site.fields put.path put.inode none).0 (legal.inode, legal.fits)).1.1
+
+      -- its inode is above those of the others
+      pub new_above : (file : FileRec) → file ≡ stored_file None moment put → All (λ (other : FileRec). other.inode < file.inode) old.files.list
+      new_above file is =
+          let inode : file.inode ≡ site.fields.next_inode = ap (λ (f : FileRec). f.inode) is ∙ new_inode in
+          subst (λ (l : List FileRec). All (λ (other : FileRec). other.inode < file.inode) l) (sym keeps.files)
+          (λ k d k_in. omega (arith, below_at site.fields.next_inode site.fields.files k d orderly.below k_in, inode))
 
       -- it goes behind the others
       pub new_list : (file : FileRec) (new : List FileRec) → file ≡ stored_file None moment put → new ≡ old.files.list ++ file ∷ [] → new ≡ (put_effect moment put site.fields).files

@@ -1,4 +1,7 @@
 pub mod Places
+pub mod Orders
+pub mod PathIndex
+pub mod Indexed
 pub mod Legality
 pub mod Effects
 pub mod Asking

@@ -1,8 +1,9 @@
 -- Places in lists: what stands before and behind the first element that passes a test, and what a change at its place leaves.
-use Rattle.std.proofs.Common.{◌≡◌, ℕ, suc, ◌+◌, ◌<◌, List, [], ◌∷◌, ◌++◌, length, get_or, set, refl, sym, ◌∙◌, ap, arith, Bool, true, false, cond, Some, None, length-append}
-use Rattle.std.specs.Prelude.{find, position, slice_get, remove, is_some, ◌||◌}
+use Rattle.std.proofs.Common.{◌≡◌, ℕ, zero, suc, ◌+◌, ◌<◌, List, [], ◌∷◌, ◌++◌, length, get_or, set, refl, sym, ◌∙◌, ap, arith, Bool, true, false, cond, Option, Some, None, length-append, add-zero, zero-add}
+use Rattle.std.specs.Prelude.{All, find, position, slice_get, remove, is_some, ◌||◌}
 use Rattle.std.specs.List.{AllByRecursion, position_from, list_any}
 use Rattle.std.proofs.lemmas.Iterator.Adapters.{position_from-zero}
+use Rattle.std.proofs.lemmas.List.Elements.{recursion_from_All}
 
 -- the first element that passes, in a list whose places count from `base`
 pub record FirstAt {X : Type 0} (p : X → Bool) (xs : List X) (base place : ℕ) : Type 0 where
@@ -126,3 +127,34 @@ found_place p xs item e =
     let there = found_at p xs item e in
     let long : length xs ≡ length there.0 + suc (length there.1) = ap length there.2 ∙ length-append there.0 (item ∷ there.1) in
     (length there.0, omega (arith, long), λ d. ap (λ l. get_or l (length there.0) d) there.2 ∙ get_or-at there.0 item there.1 d)
+
+-- where the first element that passes stands, and what it is, of a list whose places count from `base`
+counted_at : {X : Type 0} (p : X → Bool) (xs : List X) (base i : ℕ) (d : X) → i < length xs → p (get_or xs i d) ≡ true → ((k : ℕ) → k < i → p (get_or xs k d) ≡ false)
+    → position_from p base xs ≡ Some (base + i)
+counted_at p [] base i d lt passes fails = absurd (omega arith)
+counted_at p (x ∷ xs) base zero d lt passes fails = ap (λ b. cond b (Some base) (position_from p (base + 1) xs)) passes ∙ ap (λ (n : ℕ). let o : Option ℕ = Some n in o) (sym (add-zero base))
+counted_at p (x ∷ xs) base (suc i) d lt passes fails =
+    let there : base + 1 + i ≡ base + suc i = omega arith in
+    ap (λ b. cond b (Some base) (position_from p (base + 1) xs)) (fails 0 (omega arith))
+    ∙ counted_at p xs (base + 1) i d (omega arith) passes (λ k below. fails (suc k) (omega arith))
+    ∙ ap (λ (n : ℕ). let o : Option ℕ = Some n in o) there
+
+pub position_at : {X : Type 0} (p : X → Bool) (xs : List X) (i : ℕ) (d : X) → i < length xs → p (get_or xs i d) ≡ true → ((k : ℕ) → k < i → p (get_or xs k d) ≡ false)
+    → position p xs ≡ Some i
+position_at p xs i d lt passes fails =
+    position_from-zero p xs ∙ counted_at p xs 0 i d lt passes fails ∙ ap (λ (n : ℕ). let o : Option ℕ = Some n in o) (zero-add i)
+
+pub find_at : {X : Type 0} (p : X → Bool) (xs : List X) (i : ℕ) (d : X) → i < length xs → p (get_or xs i d) ≡ true → ((k : ℕ) → k < i → p (get_or xs k d) ≡ false)
+    → find p xs ≡ Some (get_or xs i d)
+find_at p [] i d lt passes fails = absurd (omega arith)
+find_at p (x ∷ xs) zero d lt passes fails = ap (λ b. cond b (Some x) (find p xs)) passes
+find_at p (x ∷ xs) (suc i) d lt passes fails =
+    ap (λ b. cond b (Some x) (find p xs)) (fails 0 (omega arith)) ∙ find_at p xs i d (omega arith) passes (λ k below. fails (suc k) (omega arith))
+
+-- where none passes there is no place
+nowhere : {X : Type 0} (p : X → Bool) (xs : List X) (base : ℕ) → AllByRecursion (λ x. p x ≡ false) xs → position_from p base xs ≡ None
+nowhere p [] base fails = refl
+nowhere p (x ∷ xs) base fails = ap (λ b. cond b (Some base) (position_from p (base + 1) xs)) fails.0 ∙ nowhere p xs (base + 1) fails.1
+
+pub position-none : {X : Type 0} (p : X → Bool) (xs : List X) → All (λ x. p x ≡ false) xs → position p xs ≡ None
+position-none p xs fails = position_from-zero p xs ∙ nowhere p xs 0 (recursion_from_All (λ x. p x ≡ false) xs fails)

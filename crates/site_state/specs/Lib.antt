@@ -1,4 +1,5 @@
 pub mod FileList
+pub mod PathIndex
 pub mod Inside
 pub mod Fields
 pub mod Keeps

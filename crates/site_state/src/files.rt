@@ -1,6 +1,6 @@
 //! The files of a site, without their bytes.
 
-ghost use Rattle.std.specs.Prelude.{◌≡◌, ◌==◌, ◌<◌, ◌≤◌, ◌+◌, ◌^◌, ◌++◌, [], ◌∷◌, ℕ, length, remove, slice_get, slice_set, slice_index_or, IfSome, OnOk, Some};
+ghost use Rattle.std.specs.Prelude.{◌≡◌, ◌==◌, ◌<◌, ◌≤◌, ◌+◌, ◌^◌, ◌++◌, [], ◌∷◌, ℕ, length, remove, slice_get, slice_set, slice_index_or, IfSome, OnOk, None, Some, All};
 ghost use Rattle.std.specs.List.{position};
 ghost use Rattle.std.specs.Option.{option_copied};
 ghost use Rattle.std.specs.Str.{bytes_eq};
@@ -10,29 +10,37 @@ ghost use Rattle.site_history.specs.Steps.{stored_file};
 ghost use Rattle.site_state.specs.Fields.{put_of};
 ghost use Rattle.records.specs.declared.file.FileRec.{FileRec as Rec};
 
+use crate::path_index::{
+    index_of_inode, index_of_path, is_above_all, place_for_path, place_of_file,
+};
 use crate::stored::{PutFields, store_over};
 use records::{FileRec, Run};
 use site_text::List;
 use std::alloc::{AllocError, Global};
 use std::marker::Model;
 
-/// The files of a site, without their bytes, by rising inode. Contracts see them as a list, and for how many more there is
-/// room.
+/// The files of a site, without their bytes, by rising inode, with an index of their paths. Contracts see them as a list, and
+/// for how many more there is room.
 #[derive(Drop)]
 pub struct Files {
     items: Vec<FileRec>,
+    // The inodes of all files, in the order of their paths. A removal moves places in `items`, and changes no inode.
+    by_path: Vec<u32>,
 }
 
 impl Model for Files {
-    ghost use Rattle.std.specs.Prelude.{◌-◌, vec_len, vec_capacity};
+    ghost use Rattle.std.specs.Prelude.{◌-◌, min, vec_len, vec_capacity};
     ghost use Rattle.site_state.specs.FileList.{FileList};
-    ghost use Rattle.site_state.specs.Inside.{HaveInodes};
+    ghost use Rattle.site_state.specs.Inside.{AreIndexed};
 
     ghost Value = { FileList };
 
-    ghost view = { λ files. record { list = files.items.items; room = vec_capacity files.items - vec_len files.items } };
+    ghost view = { λ files. record {
+      list = files.items.items;
+      room = min (vec_capacity files.items - vec_len files.items) (vec_capacity files.by_path - vec_len files.by_path);
+    } };
 
-    ghost invariant = { HaveInodes };
+    ghost invariant = { AreIndexed };
 }
 
 impl Files {
@@ -42,6 +50,7 @@ impl Files {
     {
         Files {
             items: Vec::new(alloc),
+            by_path: Vec::new(alloc),
         }
     }
 
@@ -63,16 +72,14 @@ impl Files {
     pub fn find(&self, path: &[u8]) -> Option<usize>
         ensures { result ≡ position (λ (file : Rec). bytes_eq file.path path.now) self.now.list }
     {
-        self.items
-            .iter()
-            .position(|file| file.path.as_slice() == path)
+        index_of_path(&self.items, &self.by_path, path)
     }
 
     /// The index of the first file of an inode.
     pub fn find_inode(&self, inode: u32) -> Option<usize>
         ensures { result ≡ position (λ (file : Rec). file.inode == inode) self.now.list }
     {
-        self.items.iter().position(|file| file.inode == inode)
+        index_of_inode(&self.items, inode)
     }
 
     /// The file of a path.
@@ -91,15 +98,26 @@ impl Files {
         ensures list { self.new.list ≡ self.old.list }
         ensures room { OnOk result (0 < self.new.room) }
     {
-        self.items.reserve(1)
+        self.items.reserve(1)?;
+        self.by_path.reserve(1)
     }
 
-    /// Adds a file, for which there is room, behind the others.
+    /// Adds a file of a path that no file has, for which there is room, behind the others. Its inode is above theirs; where it is
+    /// not, nothing is added.
     pub fn push(&mut self, file: FileRec)
         requires room { 0 < self.old.room }
         requires inode { IsInode file.inode }
-        ensures { self.new.list ≡ self.old.list ++ file ∷ [] }
+        requires path { file_at file.path self.old.list ≡ None }
+        ensures { All (λ (other : Rec). other.inode < file.inode) self.old.list → self.new.list ≡ self.old.list ++ file ∷ [] }
     {
+        // A new file has the next inode, which is above all that any file had.
+        if !is_above_all(&self.items, file.inode) {
+            return;
+        }
+        let place = place_for_path(&self.items, &self.by_path, file.path.as_slice());
+        if self.by_path.insert(place, file.inode).is_err() {
+            unreachable!();
+        }
         if self.items.push(file).is_err() {
             unreachable!();
         }
@@ -130,6 +148,8 @@ impl Files {
         ensures list { self.new.list ≡ remove self.old.list index }
         ensures old { slice_get self.old.list index ≡ Some result }
     {
+        let place = place_of_file(&self.items, &self.by_path, index);
+        self.by_path.remove(place);
         self.items.remove(index)
     }
 }

@@ -6,6 +6,7 @@ mod apply;
 mod files;
 mod legal;
 mod look;
+mod path_index;
 mod prepare;
 mod replays;
 mod rule;

@@ -54,6 +54,7 @@ pub fn new_file(moment: u64, put: PutFields) -> FileRec
 pub fn store_over(file: &mut FileRec, moment: u64, put: PutFields) -> List<Run>
     ensures file { file.old.generation + 1 < 2 ^ 64 → file.new ≡ stored_file (Some file.old) moment (put_of put) }
     ensures inode { file.new.inode ≡ file.old.inode }
+    ensures path { file.new.path ≡ file.old.path }
     ensures runs { result ≡ file.old.runs }
 {
     let PutFields {

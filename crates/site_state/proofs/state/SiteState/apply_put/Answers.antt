@@ -2,11 +2,12 @@ use Rattle.std.proofs.Common.{◌≡◌, ℕ, List, length, refl, sym, ◌∙◌
 use Rattle.std.specs.Prelude.{position}
 use Rattle.std.specs.Str.{bytes_eq}
 use Rattle.records.specs.declared.file.FileRec.{FileRec}
+use Rattle.site_history.specs.Site.{file_at}
 use Rattle.site_history.specs.Histories.{after}
 use Rattle.site_history.proofs.SiteLaws.{orderly}
 use Rattle.site_state.specs.Fields.{put_of}
 use Rattle.site_state.proofs.Legality.{file_at-none}
-use Rattle.site_state.proofs.Effects.{replaced_list, replaced_next, replaced_space, new_list, new_next, new_space}
+use Rattle.site_state.proofs.Effects.{replaced_list, replaced_next, replaced_space, new_above, new_list, new_next, new_space}
 use Rattle.site_state.proofs.state.SiteState.apply_put.Goals as goal
 
 -- what was found is that of the put's path
@@ -16,6 +17,11 @@ asked path slice files o p same is e = ap (λ (l : List ℕ). position (λ (file
 
 pub push-requires-clause-room : goal.push-requires-clause-room
 push-requires-clause-room c = c.requires.room (file_at-none c.args.put.path c.args.self.now.files.list (asked c.args.put.path _ c.args.self.now.files.list _ None c.as_slice-2.ensures c.find.ensures c.in-None.is))
+
+pub push-requires-clause-path : goal.push-requires-clause-path
+push-requires-clause-path c =
+    ap (λ (file : FileRec). file_at file.path c.args.self.now.files.list) c.new_file.ensures
+    ∙ file_at-none c.args.put.path c.args.self.now.files.list (asked c.args.put.path _ c.args.self.now.files.list _ None c.as_slice-2.ensures c.find.ensures c.in-None.is)
 
 pub returns-in-Some : goal.returns-in-Some
 returns-in-Some c = λ steps history few keeps legal.
@@ -35,7 +41,8 @@ pub returns-in-None : goal.returns-in-None
 returns-in-None c = λ steps history few keeps legal.
     let found = asked c.args.put.path _ c.args.self.now.files.list _ None c.as_slice-2.ensures c.find.ensures c.in-None.is in
     record {
-      files = new_list (length steps) (after steps) (orderly steps history) c.args.self.now keeps c.args.moment (put_of c.args.put) legal found c.new_file.result _ c.new_file.ensures c.push.ensures;
+      files = new_list (length steps) (after steps) (orderly steps history) c.args.self.now keeps c.args.moment (put_of c.args.put) legal found c.new_file.result _ c.new_file.ensures
+          (c.push.ensures (new_above (length steps) (after steps) (orderly steps history) c.args.self.now keeps c.args.moment (put_of c.args.put) legal found c.new_file.result c.new_file.ensures));
       next_inode = new_next (length steps) (after steps) (orderly steps history) c.args.self.now keeps c.args.moment (put_of c.args.put) legal found _ c.saturating_add-self.ensures;
       moment = refl;
       configuration = keeps.configuration;
