@@ -1,6 +1,7 @@
 """Answers lines as docs/LINES.md describes them: an independent machine, with plain maps and whole byte strings, and no journal.
 
-It shares nothing with the program or its definitions, and is a second opinion on what they say.
+It shares no code and no definition with the program, and is a second opinion on what these say. Its authors knew the program: that a
+tab is a blank was taken from the lines' description once an answer had differed.
 """
 import re
 

@@ -1,7 +1,8 @@
 """Reads the five command files as docs/COMMAND_FILES.md describes them, and says what `configure` answers.
 
-It was written from the description alone, with regular expressions and whole lists, and shares nothing with the program: a second
+It follows the description, with regular expressions and whole lists, and shares no code and no definition with the program: a second
 opinion on what the definitions say, since a proof shows that the program does what they say and not that they say the right thing.
+Its authors knew the program, so it may share a misreading with it.
 """
 import re
 
