@@ -18,7 +18,7 @@ use archiver_lines::{
     Assignment, CopyConf, CopyName, DEFAULT_AGE, Known, ParamsLine, SetCopy, VsnExpr, VsnsLine,
     mention, same_name,
 };
-use site_text::{Bytes, List};
+use base::{Bytes, List};
 use std::alloc::{AllocError, Global};
 
 /// A set with its copies.

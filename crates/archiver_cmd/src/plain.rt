@@ -12,7 +12,8 @@ use archiver_lines::{
     Reading, assignments_of, copies_of, has_vsns_of, known_of, mention, opened_of, params_of,
     read_line, sets_of, vsns_of,
 };
-use site_text::{Bytes, CommandFile, ConfError, Line, LineError, List, read_file};
+use base::{Bytes, List};
+use site_text::{CommandFile, ConfError, Line, LineError, read_file};
 use std::alloc::{AllocError, Global};
 
 /// The archiver.cmd of a site with this file system.

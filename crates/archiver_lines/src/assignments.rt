@@ -8,7 +8,8 @@ use crate::criteria::{Criterion, Release, Stage, read_criteria};
 use crate::names::{MOST_SETS, is_set_name, set_place};
 use crate::paths::is_set_path;
 use crate::reading::{Assignment, Local, Reading};
-use site_text::{Bytes, ConfFault, Fields, LineError, List, refuse_if};
+use base::{Bytes, List};
+use site_text::{ConfFault, Fields, LineError, refuse_if};
 use std::alloc::Global;
 
 /// The limit on the number of assignment lines.

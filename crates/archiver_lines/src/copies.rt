@@ -4,7 +4,7 @@ ghost use Rattle.std.specs.Prelude.{◌≡◌, IfOk};
 
 use crate::param_options::Given;
 use crate::reading::{Assignment, CopyName, ParamsLine, PoolLine, SetCopy, VsnExpr, VsnsLine};
-use site_text::{Bytes, List};
+use base::{Bytes, List};
 use std::alloc::{AllocError, Global};
 
 fn copy_of_option(text: &Option<Bytes>) -> Result<Option<Bytes>, AllocError>

@@ -7,9 +7,8 @@ ghost use Rattle.archiver_lines.specs.CopyLines.{has_copy, no_second, copy_optio
 
 use crate::names::is_too_many;
 use crate::reading::{CopyConf, SetCopy};
-use site_text::{
-    Bytes, ConfFault, Fields, LineError, age_value, is_option, read_number, refuse_if,
-};
+use base::Bytes;
+use site_text::{ConfFault, Fields, LineError, age_value, is_option, read_number, refuse_if};
 use std::alloc::Global;
 
 /// The age in seconds at which a copy is made where its line gives none.

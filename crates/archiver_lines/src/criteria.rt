@@ -5,9 +5,10 @@ ghost use Rattle.site_text.specs.Fields.{Leaves, Gives};
 ghost use Rattle.site_text.specs.Options.{options_of};
 ghost use Rattle.archiver_lines.specs.Criteria.{criteria_table, name_value};
 
+use base::{Bytes, List};
 use site_text::{
-    Bytes, ConfFault, Fields, LineError, List, OptionTable, age_value, is_name, option_named,
-    read_options, size_value, word_value,
+    ConfFault, Fields, LineError, OptionTable, age_value, is_name, option_named, read_options,
+    size_value, word_value,
 };
 use std::alloc::Global;
 

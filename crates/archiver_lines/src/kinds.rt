@@ -8,7 +8,8 @@ ghost use Rattle.site_text.specs.Words.{named};
 ghost use Rattle.archiver_lines.specs.Kinds.{words, end_word, inside_kind, plain_kind, word_kind, outside_kind, kind_of};
 
 use crate::reading::{Opened, Section};
-use site_text::{Bytes, find_word, is_digit, value_line};
+use base::Bytes;
+use site_text::{find_word, is_digit, value_line};
 
 /// What kind of line a line is.
 #[derive(Clone, Copy, Debug, PartialEq, Eq)]

@@ -8,7 +8,7 @@ use crate::names::is_in;
 use crate::reading::{
     Assignment, Local, Opened, ParamsLine, PoolLine, Reading, Section, SetCopy, VsnsLine,
 };
-use site_text::{Bytes, List};
+use base::{Bytes, List};
 use std::alloc::{AllocError, Global};
 
 /// The limit on the number of expressions for volumes, with pools put in.

@@ -14,7 +14,8 @@ use crate::names::SetNames;
 use crate::reading::{Opened, Reading, Section};
 use crate::section_lines::{params_line, pool_line, vsns_line};
 use crate::value_lines::read_value_line;
-use site_text::{Bytes, ConfFault, Line, LineError};
+use base::Bytes;
+use site_text::{ConfFault, Line, LineError};
 use std::alloc::Global;
 
 fn read_copy(alloc: Global, known: &Known, fields: &[Bytes]) -> Result<Reading, LineError>

@@ -9,9 +9,9 @@ ghost use Rattle.site_text.specs.Fields.{Gives};
 ghost use Rattle.archiver_lines.specs.Names.{is_set_byte, is_set_name, is_in, set_place, is_too_many, same_name, last_dot, copy_number, around_last_dot, is_known, numbered_name, copy_name};
 
 use crate::reading::CopyName;
+use base::Bytes;
 use site_text::{
-    Bytes, ConfFault, LineError, cut_at, is_digit, is_letter, is_name, read_number_within,
-    refuse_if,
+    ConfFault, LineError, cut_at, is_digit, is_letter, is_name, read_number_within, refuse_if,
 };
 use std::alloc::Global;
 

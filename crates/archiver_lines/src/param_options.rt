@@ -10,9 +10,10 @@ ghost use Rattle.archiver_lines.specs.Names.{same_name};
 
 use crate::names::same_name;
 use crate::reading::{CopyName, ParamsLine};
+use base::List;
 use site_text::{
-    ConfFault, Fields, LineError, List, OptionTable, age_value, number_value, option_named,
-    read_options, size_value, word_value,
+    ConfFault, Fields, LineError, OptionTable, age_value, number_value, option_named, read_options,
+    size_value, word_value,
 };
 use std::alloc::Global;
 

@@ -2,7 +2,7 @@
 
 use crate::criteria::{Release, Stage};
 use crate::param_options::Given;
-use site_text::{Bytes, List};
+use base::{Bytes, List};
 
 /// For which file systems a line stands.
 #[derive(Clone, Copy, Debug, PartialEq, Eq)]

@@ -9,7 +9,8 @@ ghost use Rattle.archiver_lines.specs.SectionLines.{expr_of, is_of_pool, exprs_a
 use crate::names::{SetNames, copy_name};
 use crate::param_options::read_param_options;
 use crate::reading::{ParamsLine, PoolLine, VsnExpr, VsnsLine};
-use site_text::{Bytes, ConfFault, Fields, LineError, List, is_media, refuse_if};
+use base::{Bytes, List};
+use site_text::{ConfFault, Fields, LineError, is_media, refuse_if};
 use std::alloc::{AllocError, Global};
 
 /// `NAME` and options, behind these lines of params.

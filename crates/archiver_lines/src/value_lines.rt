@@ -10,8 +10,9 @@ ghost use Rattle.site_text.specs.Plain.{no_words};
 ghost use Rattle.archiver_lines.specs.declared.value_lines.Directive.TheVariants as directive;
 
 use crate::reading::Reading;
+use base::Bytes;
 use site_text::{
-    Bytes, ConfFault, Fields, LineError, find_word, is_name, read_ignored, refuse_if, value_line,
+    ConfFault, Fields, LineError, find_word, is_name, read_ignored, refuse_if, value_line,
 };
 use std::alloc::Global;
 

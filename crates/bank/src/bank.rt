@@ -1,7 +1,7 @@
 //! A store of numbered areas of bytes.
 
 ghost use Rattle.std.specs.Prelude.{◌≡◌, ◌+◌, ◌^◌, ◌<◌, ◌≤◌, ℕ, Bool, IsTrue, length, OnOk, OnErr};
-ghost use Rattle.site_text.specs.Causes.{HasCause};
+ghost use Rattle.base.specs.Causes.{HasCause};
 ghost use Rattle.bank.specs.Content.{Stands};
 ghost use Rattle.bank.specs.View.{View, IsSound, Unchanged, Touches, OnlyContent};
 

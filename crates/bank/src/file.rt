@@ -1,7 +1,7 @@
 //! A store over a folder of the file system.
 
 ghost use Rattle.std.specs.Prelude.{◌≡◌, ◌+◌, ◌^◌, ◌<◌, ◌≤◌, ℕ, false, length, IsErr, IfOk, OnErr, OnOk};
-ghost use Rattle.site_text.specs.Causes.{HasCause};
+ghost use Rattle.base.specs.Causes.{HasCause};
 ghost use Rattle.bank.specs.View.{untold};
 ghost use Rattle.bank.specs.declared.file.FileBankRefusal.TheVariants.{NoMemory};
 

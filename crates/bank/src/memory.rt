@@ -1,7 +1,7 @@
 //! A store in memory, which records its calls and fails by a list.
 
 ghost use Rattle.std.specs.Prelude.{◌≡◌, ◌⊎◌, ◌+◌, ◌^◌, ◌<◌, ◌≤◌, ℕ, true, false, [], ◌∷◌, ◌++◌, reverse, take, IsTrue, length, IfOk, IsOkAnd, OnOk, OnErr, IsErr};
-ghost use Rattle.site_text.specs.Causes.{HasCause};
+ghost use Rattle.base.specs.Causes.{HasCause};
 ghost use Rattle.bank.specs.Content.{Stands, Same};
 ghost use Rattle.bank.specs.Past.{content_of};
 ghost use Rattle.bank.specs.Failing.{same_kind, count_of, is_listed};
@@ -9,7 +9,7 @@ ghost use Rattle.bank.specs.Failing.{same_kind, count_of, is_listed};
 use crate::bank::{Bank, BankFailed};
 use crate::call::{BankCall, Call, FailAt, same_kind};
 use crate::crash::add_left;
-use site_text::{Bytes, List};
+use base::{Bytes, List};
 use std::alloc::{AllocError, Global};
 
 /// A store in memory. It keeps a record of its calls, and fails those of a list; one that fails changes nothing.

@@ -15,12 +15,13 @@ ghost use Rattle.configuration.specs.Readings.{AreWithin, is_within, are_within,
 ghost use Rattle.configuration.specs.Says.{Says, ConfigurationAnswers, TellsRefusal, FileTold, in_file};
 
 use archiver_cmd::{ArchiverConf, read_archiver};
+use base::Bytes;
 use daemon_cmds::{
     RecyclerConf, ReleaserConf, SiteConf, StagerConf, read_recycler, read_releaser, read_site,
     read_stager,
 };
 use records::{CommandFile, SiteTexts};
-use site_text::{Bytes, ConfError, ConfFault};
+use site_text::{ConfError, ConfFault};
 use std::alloc::Global;
 
 /// The most bytes that a command file may have.

@@ -9,9 +9,8 @@ ghost use Rattle.daemon_cmds.specs.RecyclerTold.{recycler_line, RecyclerLineSays
 use crate::recycler_conf::{LibraryRecycling, RecycleOption, RecyclerConf, RecyclerReading};
 use crate::recycler_lines::read_recycler_line;
 use crate::site_conf::{Library, SiteConf};
-use site_text::{
-    CommandFile, ConfError, Line, LineError, List, each_text_says_one_thing, read_file,
-};
+use base::List;
+use site_text::{CommandFile, ConfError, Line, LineError, each_text_says_one_thing, read_file};
 use std::alloc::{AllocError, Global};
 
 /// How a library is recycled for which nothing is given.

@@ -11,9 +11,10 @@ ghost use Rattle.daemon_cmds.specs.RecyclerLines.{no_recycle_form, is_no_recycle
 use crate::recycler_conf::{NoRecycle, RecycleOption, RecyclerReading};
 use crate::site_conf::Library;
 use crate::site_lines::library_place;
+use base::{Bytes, List};
 use site_text::{
-    Bytes, ConfFault, Fields, Line, LineError, List, OptionTable, is_media, number_value,
-    option_named, read_ignored, read_options, size_value, value_line,
+    ConfFault, Fields, Line, LineError, OptionTable, is_media, number_value, option_named,
+    read_ignored, read_options, size_value, value_line,
 };
 use std::alloc::{AllocError, Global};
 

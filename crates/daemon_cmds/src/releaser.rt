@@ -13,9 +13,8 @@ use crate::releaser_conf::{
 };
 use crate::releaser_lines::read_releaser_line;
 use crate::site_conf::SiteConf;
-use site_text::{
-    Bytes, CommandFile, ConfError, Line, LineError, List, each_text_says_one_thing, read_file,
-};
+use base::{Bytes, List};
+use site_text::{CommandFile, ConfError, Line, LineError, each_text_says_one_thing, read_file};
 use std::alloc::{AllocError, Global};
 
 fn nothing_set() -> Settings

@@ -1,6 +1,6 @@
 //! What releaser.cmd says.
 
-use site_text::{Bytes, List};
+use base::{Bytes, List};
 
 /// How the ages of a file weigh in its priority. Weights are in millionths, at most 1,000,000.
 #[derive(Clone, Copy, Debug, PartialEq, Eq)]

@@ -11,9 +11,10 @@ ghost use Rattle.daemon_cmds.specs.ReleaserLines.{releaser_directives, releaser_
 ghost use Rattle.daemon_cmds.specs.declared.releaser_lines.ReleaserDirective.TheVariants as directives;
 
 use crate::releaser_conf::{PartSetting, ReleaserReading, Setting, Weight};
+use base::{Bytes, List};
 use site_text::{
-    Bytes, ConfFault, Fields, LineError, List, age_value, find_word, is_name, read_ignored,
-    value_line, weight_value,
+    ConfFault, Fields, LineError, age_value, find_word, is_name, read_ignored, value_line,
+    weight_value,
 };
 use std::alloc::Global;
 

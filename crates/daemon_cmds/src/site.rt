@@ -10,9 +10,8 @@ ghost use Rattle.daemon_cmds.specs.SiteTold.{site_line, SiteLineSays, SiteLineWr
 
 use crate::site_conf::{SiteConf, SiteReading, SiteSoFar};
 use crate::site_lines::read_site_line;
-use site_text::{
-    Bytes, CommandFile, ConfError, Line, LineError, List, each_text_says_one_thing, read_file,
-};
+use base::{Bytes, List};
+use site_text::{CommandFile, ConfError, Line, LineError, each_text_says_one_thing, read_file};
 use std::alloc::{AllocError, Global};
 
 #[derive(Drop)]

@@ -14,9 +14,10 @@ ghost use Rattle.daemon_cmds.specs.SiteLines.{site_directives, library_place, ne
 ghost use Rattle.daemon_cmds.specs.declared.site_lines.SiteDirective.TheVariants as directives;
 
 use crate::site_conf::{Library, SiteReading, SiteSoFar, Volume};
+use base::Bytes;
 use site_text::{
-    Bytes, ConfFault, Fields, LineError, find_word, is_media, is_name, multiple_value,
-    number_value, refuse_if, value_line,
+    ConfFault, Fields, LineError, find_word, is_media, is_name, multiple_value, number_value,
+    refuse_if, value_line,
 };
 use std::alloc::Global;
 

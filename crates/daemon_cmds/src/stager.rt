@@ -9,9 +9,8 @@ ghost use Rattle.daemon_cmds.specs.StagerTold.{stager_line, StagerLineSays, Stag
 use crate::site_conf::{Library, SiteConf};
 use crate::stager_conf::{StagerConf, StagerReading};
 use crate::stager_lines::read_stager_line;
-use site_text::{
-    CommandFile, ConfError, Line, LineError, List, each_text_says_one_thing, read_file,
-};
+use base::List;
+use site_text::{CommandFile, ConfError, Line, LineError, each_text_says_one_thing, read_file};
 use std::alloc::{AllocError, Global};
 
 /// The drives of each library.

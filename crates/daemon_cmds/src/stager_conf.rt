@@ -1,6 +1,6 @@
 //! What stager.cmd says.
 
-use site_text::List;
+use base::List;
 
 /// How files are staged.
 #[derive(Drop)]

@@ -12,8 +12,9 @@ ghost use Rattle.daemon_cmds.specs.declared.stager_lines.StagerDirective.TheVari
 use crate::site_conf::Library;
 use crate::site_lines::library_place;
 use crate::stager_conf::StagerReading;
+use base::{Bytes, List};
 use site_text::{
-    Bytes, ConfFault, Fields, LineError, List, cut_at, find_word, number_value, read_ignored,
+    ConfFault, Fields, LineError, cut_at, find_word, number_value, read_ignored,
     read_number_within, refuse_if, value_line,
 };
 use std::alloc::{AllocError, Global};

@@ -1,8 +1,8 @@
 //! The lines of hand-made texts, and the reader against the slow program.
 
+use base::{Bytes, List};
 use input::{LineRead, RawLine, Reader, next_line, plain_lines};
 use outside::{MemorySource, Source};
-use site_text::{Bytes, List};
 use std::alloc::{AllocError, Global};
 use std::test::Fail;
 

@@ -1,7 +1,7 @@
 //! Configurations.
 
 ghost use Rattle.std.specs.Prelude.{ℕ, ◌≡◌, ◌≢◌, ◌≤◌, false, Bool, List as Seq, None, Some, option_map, IfOk, IfErr, IfNone, IfSome, OnOk, IsTrue};
-ghost use Rattle.site_text.specs.Causes.{Rose};
+ghost use Rattle.base.specs.Causes.{Rose};
 ghost use Rattle.bank.specs.Content.{Content};
 ghost use Rattle.records.specs.Written.{written, InRange};
 ghost use Rattle.records.specs.declared.event.Event.TheVariants.{Configure as ConfigureEvent};

@@ -1,7 +1,7 @@
 //! The bytes of files in the cache.
 
 ghost use Rattle.std.specs.Prelude.{◌≡◌, ◌+◌, ◌*◌, ◌<◌, ◌≤◌, ◌^◌, ℕ, List as Seq, IsTrue, length, take, IfOk, OnOk, OnErr};
-ghost use Rattle.site_text.specs.Causes.{HasCause};
+ghost use Rattle.base.specs.Causes.{HasCause};
 ghost use Rattle.bank.specs.Content.{Stands};
 ghost use Rattle.bank.specs.View.{Touches, OnlyRead};
 ghost use Rattle.bank.specs.Inside.{WroteInside};

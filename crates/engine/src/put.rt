@@ -1,8 +1,8 @@
 //! Puts.
 
 ghost use Rattle.std.specs.Prelude.{◌≡◌, ◌≢◌, ◌+◌, ◌<◌, ◌≤◌, ◌^◌, ◌++◌, [], ◌∷◌, ℕ, Bool, List as Seq, IsTrue, false, length, IfOk, OnOk};
-ghost use Rattle.site_text.specs.Causes.{Rose};
-ghost use Rattle.records.specs.Paths.{is_legal_path, is_legal_name};
+ghost use Rattle.base.specs.Causes.{Rose};
+ghost use Rattle.base.specs.Paths.{is_legal_path, is_legal_name};
 ghost use Rattle.records.specs.Ranges.{IsInode};
 ghost use Rattle.records.specs.Written.{written, InRange};
 ghost use Rattle.records.specs.declared.event.Event.TheVariants.{Put as PutEvent};
@@ -25,9 +25,9 @@ use crate::data::store;
 use crate::kept::Engine;
 use crate::payload::write_payload;
 use bank::Bank;
+use base::Bytes;
 use records::{Reply, Run, Step, StepKind};
 use site_state::{Place, Prepared};
-use site_text::Bytes;
 use std::alloc::AllocError;
 
 // The runs of a put's step.

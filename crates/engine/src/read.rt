@@ -1,7 +1,7 @@
 //! Reads.
 
 ghost use Rattle.std.specs.Prelude.{ℕ, ◌≡◌, ◌≢◌, ◌≤◌, false, Bool, List as Seq, IsTrue};
-ghost use Rattle.site_text.specs.Causes.{Rose};
+ghost use Rattle.base.specs.Causes.{Rose};
 ghost use Rattle.records.specs.declared.event.Event.TheVariants.{Read as ReadEvent};
 ghost use Rattle.site_history.specs.Steps.{HistoryStep};
 ghost use Rattle.site_history.specs.Worlds.{World, at, Turn};
@@ -13,9 +13,9 @@ use crate::data::load_all;
 use crate::kept::Engine;
 use crate::payload::write_payload;
 use bank::Bank;
+use base::Bytes;
 use records::{Reply, Rule, Step, StepKind};
 use site_state::Prepared;
-use site_text::Bytes;
 
 impl<B: Bank, P: Drop> Engine<B, P> {
     /// Reads the first `upto` bytes of the file of a path. The event's moment is the clock.

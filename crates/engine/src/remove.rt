@@ -1,7 +1,7 @@
 //! Removals.
 
 ghost use Rattle.std.specs.Prelude.{ℕ, ◌≡◌, ◌≢◌, ◌≤◌, false, Bool, List as Seq, IsTrue};
-ghost use Rattle.site_text.specs.Causes.{Rose};
+ghost use Rattle.base.specs.Causes.{Rose};
 ghost use Rattle.records.specs.declared.event.Event.TheVariants.{Remove as RemoveEvent};
 ghost use Rattle.site_history.specs.Steps.{HistoryStep};
 ghost use Rattle.site_history.specs.Worlds.{World, at, Turn};

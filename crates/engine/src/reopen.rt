@@ -1,7 +1,7 @@
 //! A site from its journal.
 
 ghost use Rattle.std.specs.Prelude.{◌≡◌, ◌≤◌, List as Seq, IfOk, IfErr, OnOk, IsTrue};
-ghost use Rattle.site_text.specs.Causes.{Rose};
+ghost use Rattle.base.specs.Causes.{Rose};
 ghost use Rattle.bank.specs.View.{OnlyRead, OnlyContent};
 ghost use Rattle.journal.specs.Records.{HoldsRecords};
 ghost use Rattle.site_history.specs.Steps.{HistoryStep};

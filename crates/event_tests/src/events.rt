@@ -3,9 +3,9 @@
 ghost use Rattle.std.specs.Prelude.{◌≤◌};
 
 use bank::{BankCall, FailAt, MemoryBank};
+use base::{Bytes, List};
 use engine::Engine;
 use records::{Event, Reply, SiteTexts};
-use site_text::{Bytes, List};
 use std::alloc::{AllocError, Global};
 use std::process::Abort;
 use std::test::Fail;

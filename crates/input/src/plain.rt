@@ -4,7 +4,7 @@ ghost use Rattle.std.specs.Prelude.{◌≡◌, true, IfOk};
 ghost use Rattle.input.specs.Lines.{line_of, without_return, raw_lines};
 
 use crate::line_buffer::LONGEST_LINE;
-use site_text::{Bytes, List};
+use base::{Bytes, List};
 use std::alloc::{AllocError, Global};
 
 /// A line without its end, or one of over 4,096 bytes.

@@ -1,7 +1,7 @@
 //! The gate of a record.
 
 ghost use Rattle.std.specs.Prelude.{◌≡◌, ◌^◌, ◌<◌, IsTrue, OnOk, OnErr};
-ghost use Rattle.site_text.specs.Causes.{HasCause};
+ghost use Rattle.base.specs.Causes.{HasCause};
 ghost use Rattle.bank.specs.View.{Wrote, OnlyContent};
 
 use bank::{Bank, BankFailed};

@@ -1,7 +1,7 @@
 //! The journal's value.
 
 ghost use Rattle.std.specs.Prelude.{◌≡◌, ◌≢◌, ◌+◌, ◌^◌, ◌<◌, ◌≤◌, ◌++◌, ◌↔◌, ◌⊎◌, [], ◌∷◌, List as Seq, ℕ, IsTrue, length, OnOk, OnErr, IfOk, IfErr, IsErrOf, All};
-ghost use Rattle.site_text.specs.Causes.{Rose};
+ghost use Rattle.base.specs.Causes.{Rose};
 ghost use Rattle.bank.specs.View.{Wrote, OnlyRead, OnlyContent, LeavesOnly};
 ghost use Rattle.journal.specs.Records.{IsPayload, HoldsRecords, AllHold, IsBeforeOrAfter, IsBadAt, end_of};
 ghost use Rattle.journal.specs.Refusals.{IfBadRecord};
@@ -11,7 +11,7 @@ use crate::reading::read_records;
 use crate::refusal::{AppendRefusal, JournalRefusal};
 use crate::writing::{BUFFER_ROOM, stage};
 use bank::Bank;
-use site_text::{Bytes, List};
+use base::{Bytes, List};
 use std::alloc::Global;
 use std::marker::Model;
 

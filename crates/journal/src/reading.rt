@@ -2,7 +2,7 @@
 
 ghost use Rattle.std.specs.Prelude.{◌≡◌, ◌≢◌, ◌+◌, ◌^◌, ◌<◌, ◌≤◌, ◌⊎◌, [], ◌∷◌, ℕ, List as Seq, IsTrue, length, OnOk, OnErr, IfOk, IfErr, IsErrOf, MatchOption, All, slice_index};
 ghost use Rattle.std.specs.Int.{w32, to_le_bytes};
-ghost use Rattle.site_text.specs.Causes.{HasCause, Rose};
+ghost use Rattle.base.specs.Causes.{HasCause, Rose};
 ghost use Rattle.bank.specs.Content.{Stands};
 ghost use Rattle.bank.specs.View.{OnlyRead};
 ghost use Rattle.journal.specs.Records.{IsPayload, HoldsRecords, IsBadAt, end_of};
@@ -10,7 +10,7 @@ ghost use Rattle.journal.specs.Refusals.{IfBadRecord};
 
 use crate::refusal::JournalRefusal;
 use bank::{Bank, BankFailed};
-use site_text::{Bytes, List};
+use base::{Bytes, List};
 use std::alloc::Global;
 
 /// The most bytes of a record's payload.

@@ -5,7 +5,7 @@ ghost use Rattle.journal.specs.declared.refusal.AppendRefusal.TheVariants.{BankF
 ghost use Rattle.journal.specs.declared.refusal.JournalRefusal.TheVariants.{BankFault as reopen_fault, NoMemory};
 
 use bank::BankFailed;
-use site_text::{Bytes, List};
+use base::{Bytes, List};
 use std::alloc::{AllocError, AllocFailed};
 
 /// Why a journal is not reopened.

@@ -1,7 +1,7 @@
 //! The writes of an append.
 
 ghost use Rattle.std.specs.Prelude.{◌≡◌, ◌+◌, ◌^◌, ◌<◌, ◌≤◌, ◌++◌, [], ◌∷◌, IsTrue, length, OnOk, OnErr, vec_capacity};
-ghost use Rattle.site_text.specs.Causes.{HasCause};
+ghost use Rattle.base.specs.Causes.{HasCause};
 ghost use Rattle.bank.specs.Content.{Stands};
 ghost use Rattle.bank.specs.View.{Wrote, OnlyContent};
 ghost use Rattle.journal.specs.Records.{frame};

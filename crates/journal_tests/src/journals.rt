@@ -1,8 +1,8 @@
 //! Tests of the journal over a store in memory. The values come from the format.
 
 use bank::{Bank, BankCall, FailAt, MemoryBank};
+use base::{Bytes, List};
 use journal::{AppendRefusal, Journal, JournalRefusal};
-use site_text::{Bytes, List};
 use std::alloc::{AllocError, Global};
 use std::process::Abort;
 use std::test::Fail;

@@ -12,9 +12,9 @@ use crate::files::file_at;
 use crate::put::{inode_for, put_made};
 use crate::rule::put_rule;
 use crate::site::{PlainAnswer, PlainBytes, PlainSite, PlainStep};
+use base::Bytes;
 use configuration::{FileRefusal, are_within};
 use records::{Event, FileRec, LineRefusal, Reply, Rule, SiteTexts, Step, StepKind};
-use site_text::Bytes;
 use std::alloc::{AllocError, Global};
 
 /// A reply that makes no step.

@@ -8,7 +8,7 @@ ghost use Rattle.site_history.specs.Steps.{without_bytes};
 
 use crate::files::put_at;
 use crate::site::PlainBytes;
-use site_text::Bytes;
+use base::Bytes;
 use std::alloc::AllocError;
 
 // What is kept of an inode.

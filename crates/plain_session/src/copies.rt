@@ -2,8 +2,8 @@
 
 ghost use Rattle.std.specs.Prelude.{◌≡◌, IfOk};
 
+use base::List;
 use records::{CopyRec, CopySlot, CopySlots, FileRec, Run};
-use site_text::List;
 use std::alloc::{AllocError, Global};
 
 /// A copy of some runs.

@@ -10,10 +10,10 @@ ghost use Rattle.session.specs.Outcomes.{journal_bytes, stage_of};
 ghost use Rattle.plain_session.specs.Stage.{ShowsStage, Wrote};
 
 use crate::stage::{PlainStage, fresh, line_told};
+use base::Bytes;
 use desk::{is_skipped, write_reply};
 use input::{RawLine, plain_lines};
 use records::{LineRefusal, Reply, SiteTexts};
-use site_text::Bytes;
 use std::alloc::{AllocError, Global};
 
 // Writes an answer.

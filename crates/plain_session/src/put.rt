@@ -13,9 +13,9 @@ use crate::command_files::plain_blocks;
 use crate::copies::copy_file;
 use crate::files::{file_at, held_runs};
 use crate::site::{PlainPut, PlainSite};
+use base::{Bytes, List};
 use cache_space::{blocks_needed, plain_lowest};
 use records::{CopySlots, FileRec, ReleaseKind, Run, StageKind, Step, StepKind};
-use site_text::{Bytes, List};
 use std::alloc::{AllocError, Global};
 
 /// The inode of a put: that of the file that is there, or the next one.

@@ -7,8 +7,9 @@ ghost use Rattle.plain_session.specs.Site.{fields_of};
 use crate::files::file_at;
 use crate::put::free_runs;
 use crate::site::PlainSite;
+use base::{is_legal_name, is_legal_path};
 use cache_space::{blocks_needed, have_blocks};
-use records::{Rule, is_legal_name, is_legal_path};
+use records::Rule;
 use std::alloc::{AllocError, Global};
 
 /// The longest file, in bytes.

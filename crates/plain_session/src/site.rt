@@ -2,8 +2,8 @@
 
 ghost use Rattle.configuration.specs.Readings.{AreWithin};
 
+use base::{Bytes, List};
 use records::{FileRec, Reply, Run, SiteTexts, Step};
-use site_text::{Bytes, List};
 use std::marker::Model;
 
 /// All bytes of the file of an inode.

@@ -2,8 +2,8 @@
 
 use crate::top::{is_form, samq};
 use bank::{FileBank, FileBankRefusal};
+use base::List;
 use outside::{DiskFolder, LiteralPatterns, StandardInput, StandardOutput, SystemClock};
-use site_text::List;
 use std::alloc::AllocError;
 use std::fs::File;
 use std::rt::{Env, Files};

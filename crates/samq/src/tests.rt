@@ -2,9 +2,9 @@
 
 use crate::top::samq;
 use bank::{Bank, BankCall, FailAt, MemoryBank};
+use base::{Bytes, List};
 use outside::{LiteralPatterns, MemoryClock, MemoryFolder, MemorySink, MemorySource};
 use session::{Mark, run_lines};
-use site_text::{Bytes, List};
 use std::alloc::Global;
 use std::process::Abort;
 use std::test::Fail;

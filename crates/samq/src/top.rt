@@ -8,9 +8,9 @@ ghost use Rattle.session.specs.Session.{seen};
 ghost use Rattle.session.specs.Outcomes.{journal_bytes, IsOutcome, HasStatus};
 
 use bank::Bank;
+use base::List;
 use outside::{Clock, Folder, Patterns, Sink, Source};
 use session::{Outcome, run_lines};
-use site_text::List;
 use std::alloc::Global;
 
 /// How many bytes are read at the most.

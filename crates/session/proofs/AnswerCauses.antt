@@ -1,7 +1,7 @@
 -- Which answers are a cause of a status.
 use Rattle.std.proofs.Common.{◌≡◌, ◌⊎◌, inl, inr, ℕ, ◌+◌, ◌≤◌, List, length, refl, ap, arith, Bool, true, false, not, cond, Option, Some, None, IfSome}
 use Rattle.std.specs.Prelude.{option_map}
-use Rattle.site_text.specs.Causes.{AreCounted}
+use Rattle.base.specs.Causes.{AreCounted}
 use Rattle.records.specs.declared.event.Event.{Event}
 use Rattle.records.specs.declared.event.Event.TheVariants.{Put as PutEvent, Read as ReadEvent, Remove as RemoveEvent, Configure as ConfigureEvent}
 use Rattle.records.specs.declared.reply.Reply.{Reply}

@@ -1,6 +1,6 @@
 -- One round from its parts.
 use Rattle.std.proofs.Common.{◌≡◌, ◌+◌, ℕ, List, length, refl, ◌∙◌, ap, subst, Option, Bool, IsTrue}
-use Rattle.site_text.specs.Causes.{AreCounted}
+use Rattle.base.specs.Causes.{AreCounted}
 use Rattle.outside.specs.declared.folder.NamedText.{NamedText}
 use Rattle.bank.specs.Content.{Image}
 use Rattle.bank.specs.View.{View, IsSound}

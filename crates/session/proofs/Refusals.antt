@@ -1,6 +1,6 @@
 -- What is handed back where a store was not opened.
 use Rattle.std.proofs.Common.{◌≡◌, inl, inr, ℕ, List, [], refl, arith, Bool, IsTrue}
-use Rattle.site_text.specs.Causes.{Rose}
+use Rattle.base.specs.Causes.{Rose}
 use Rattle.bank.specs.Content.{Content}
 use Rattle.bank.specs.View.{View, OnlyRead}
 use Rattle.site_history.specs.Steps.{HistoryStep}

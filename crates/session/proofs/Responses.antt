@@ -1,7 +1,7 @@
 -- What is answered to what was asked, and where the engine stands then.
 use Rattle.std.proofs.Common.{◌≡◌, ◌⊎◌, inl, inr, ℕ, ◌≤◌, List, refl, sym, ◌∙◌, ap, subst, arith, Bool, IsTrue, Option, Result, Ok, Err}
 use Rattle.std.specs.Prelude.{max}
-use Rattle.site_text.specs.Causes.{Rose, AreCounted}
+use Rattle.base.specs.Causes.{Rose, AreCounted}
 use Rattle.outside.specs.declared.folder.NamedText.{NamedText}
 use Rattle.bank.specs.View.{View, IsSound}
 use Rattle.bank.proofs.Moments.{started}

@@ -2,7 +2,7 @@
 use Rattle.std.proofs.Common.{◌≡◌, ℕ, ◌+◌, ◌≤◌, List, [], ◌∷◌, ◌++◌, length, refl, sym, ◌∙◌, ap, arith, Bool, false, cond, suc, zero, append_assoc, Option}
 use Rattle.std.proofs.lemmas.List.{append-nil}
 use Rattle.std.proofs.lemmas.Bool.{ne_eqb}
-use Rattle.site_text.specs.Causes.{AreCounted}
+use Rattle.base.specs.Causes.{AreCounted}
 use Rattle.outside.specs.declared.folder.NamedText.{NamedText}
 use Rattle.desk.specs.Texts.{text_of}
 use Rattle.session.specs.Asking.{Request}

@@ -2,7 +2,7 @@
 use Rattle.std.specs.Prelude.{◌≡◌, ◌≤◌, ◌<◌, ◌⊎◌, ℕ, List, [], ◌++◌, length, Bool, true, IsTrue, IfSome}
 use Rattle.std.specs.List.{list_all}
 use Rattle.std.specs.Io.KnownBytes.{Appends, IsAtEnd}
-use Rattle.site_text.specs.Causes.{Rose}
+use Rattle.base.specs.Causes.{Rose}
 use Rattle.bank.specs.Content.{Content}
 use Rattle.bank.specs.View.{View}
 use Rattle.records.specs.declared.reply.Reply.TheVariants.{BadJournal}

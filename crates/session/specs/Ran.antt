@@ -1,7 +1,7 @@
 -- What a loop over the lines of an input keeps.
 use Rattle.std.specs.Prelude.{◌≡◌, ℕ, List, [], ◌++◌, Bool, true, false, IsTrue}
 use Rattle.std.specs.Io.KnownBytes.{Appends}
-use Rattle.site_text.specs.Causes.{AreCounted}
+use Rattle.base.specs.Causes.{AreCounted}
 use Rattle.bank.specs.View.{View}
 use Rattle.input.specs.Reading.{Reading, Items, Moved}
 use Rattle.site_history.specs.Worlds.{World}

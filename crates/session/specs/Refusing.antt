@@ -1,7 +1,7 @@
 -- What is answered where a store was not opened.
 use Rattle.std.specs.Prelude.{◌≡◌, ◌⊎◌, ℕ, List, [], ◌++◌, Option}
 use Rattle.std.specs.Io.KnownBytes.{Appends}
-use Rattle.site_text.specs.Causes.{Rose}
+use Rattle.base.specs.Causes.{Rose}
 use Rattle.records.specs.declared.reply.Reply.{Reply}
 use Rattle.desk.specs.Texts.{text_of}
 use Rattle.engine.specs.declared.engine.ShutCause.{ShutCause}

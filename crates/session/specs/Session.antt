@@ -1,7 +1,7 @@
 -- A session: from bytes to bytes.
 use Rattle.std.specs.Prelude.{◌≡◌, ◌≤◌, ℕ, List, [], ◌∷◌, ◌++◌, length, take, Option, Bool, true, false, IsTrue}
 use Rattle.std.specs.Io.KnownBytes.{Consumes, Appends, IsAtEnd}
-use Rattle.site_text.specs.Causes.{Rose, AreCounted}
+use Rattle.base.specs.Causes.{Rose, AreCounted}
 use Rattle.outside.specs.declared.folder.NamedText.{NamedText}
 use Rattle.bank.specs.View.{View}
 use Rattle.input.specs.Reading.{Items}

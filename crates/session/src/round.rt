@@ -1,7 +1,7 @@
 //! One round: what was asked is answered, the answer is written, and a mark is kept.
 
 ghost use Rattle.std.specs.Prelude.{◌≡◌, ◌≤◌, ◌+◌, length, IsTrue, Bool, Ok};
-ghost use Rattle.site_text.specs.Causes.{AreCounted};
+ghost use Rattle.base.specs.Causes.{AreCounted};
 ghost use Rattle.site_history.specs.Worlds.{World};
 ghost use Rattle.engine.specs.StandsFor.{StandsFor, Moves};
 ghost use Rattle.session.specs.Asking.{Request, reply_to};

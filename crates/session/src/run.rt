@@ -16,12 +16,12 @@ use crate::hearing::{Heard, hear};
 use crate::kept::{Ending, Mark, Session};
 use crate::round::{first_cause, one_round};
 use bank::Bank;
+use base::List;
 use desk::write_reply;
 use engine::{Engine, Shut, ShutCause};
 use input::Reader;
 use outside::{Clock, Folder, Patterns, Sink, Source, write_all};
 use records::Reply;
-use site_text::List;
 use std::alloc::Global;
 
 /// The size of the journal's area, in bytes.

@@ -2,11 +2,11 @@
 
 use crate::texts::{folder_of, texts_of};
 use bank::{Bank, BankCall, FailAt, MemoryBank};
+use base::{Bytes, List};
 use outside::{LiteralPatterns, MemoryClock, MemorySink, MemorySource};
 use plain_session::plain_output;
 use records::{CommandFile, SiteTexts};
 use session::{Mark, run_lines};
-use site_text::{Bytes, List};
 use std::alloc::Global;
 use std::process::Abort;
 use std::test::Fail;

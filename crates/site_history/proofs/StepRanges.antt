@@ -6,7 +6,7 @@ use Rattle.std.proofs.Common.{◌≡◌, ℕ, ◌<◌, ◌≤◌, ◌^◌, List,
 use Rattle.std.specs.Prelude.{IsTrue}
 use Rattle.std.specs.List.{AllByRecursion}
 use Rattle.std.proofs.lemmas.Bool.Decides.{nat_tests}
-use Rattle.records.specs.Paths.{is_legal_path, is_legal_name}
+use Rattle.base.specs.Paths.{is_legal_path, is_legal_name}
 use Rattle.records.specs.declared.file.SiteTexts.{SiteTexts}
 use Rattle.records.specs.Lengths.{step_length}
 use Rattle.records.specs.Ranges.{IsRun, IsInode}

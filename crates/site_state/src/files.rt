@@ -14,8 +14,8 @@ use crate::path_index::{
     index_of_inode, index_of_path, is_above_all, place_for_path, place_of_file,
 };
 use crate::stored::{PutFields, store_over};
+use base::List;
 use records::{FileRec, Run};
-use site_text::List;
 use std::alloc::{AllocError, Global};
 use std::marker::Model;
 

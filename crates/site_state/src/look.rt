@@ -11,10 +11,10 @@ ghost use Rattle.site_history.specs.Site.{Fields, file_at, held_runs, cache_bloc
 ghost use Rattle.site_state.specs.Keeps.{Keeps};
 
 use crate::state::SiteState;
+use base::List;
 use cache_space::blocks_needed;
 use configuration::Configuration;
 use records::{FileRec, Run};
-use site_text::List;
 use std::alloc::AllocError;
 
 impl SiteState {

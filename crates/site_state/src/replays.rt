@@ -11,9 +11,9 @@ ghost use Rattle.site_state.specs.Keeps.{Keeps};
 use crate::files::Files;
 use crate::prepare::{Prepared, Setting};
 use crate::state::SiteState;
+use base::Bytes;
 use configuration::ConfigurationError;
 use records::{SiteTexts, StepRefusal, decode_step};
-use site_text::Bytes;
 use std::alloc::{AllocError, Global};
 
 /// Why payloads are not replayed.

@@ -1,4 +1,3 @@
-pub mod Causes
 pub mod Faults
 pub mod Lines
 pub mod Texts

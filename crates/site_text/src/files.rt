@@ -8,11 +8,11 @@ ghost use Rattle.site_text.specs.declared.line.Line.{Line};
 ghost use Rattle.site_text.specs.declared.fault.ConfFault.{ConfFault};
 ghost use Rattle.site_text.specs.declared.fault.ConfRefusal.{ConfRefusal};
 
-use crate::bytes::List;
 use crate::fault::{ConfError, ConfFault, ConfRefusal, LineError};
 use crate::line::Line;
 use crate::refusal::TextRefusal;
 use crate::text_lines::lines;
+use base::List;
 use std::alloc::{AllocError, Global};
 
 /// A kind of command file, with what it stands on. Its lines are read one after the other, each by what the lines before it

@@ -2,7 +2,6 @@
 #![tactic(auto)]
 
 mod ages;
-mod bytes;
 mod cursor;
 mod fault;
 mod fields;
@@ -20,7 +19,6 @@ mod weights;
 mod words;
 
 pub use ages::read_age;
-pub use bytes::{Bytes, List};
 pub use cursor::Fields;
 pub use fault::{ConfError, ConfFault, ConfRefusal, LineError};
 pub use fields::{cut_at, cut_fields};

@@ -5,9 +5,9 @@ ghost use Rattle.site_text.specs.Fields.{Field, Gives, GivesFront, Leaves};
 ghost use Rattle.site_text.specs.Options.{Options, OptionsSay, OptionsWrong, with_given, given_at, options_of};
 ghost use Rattle.site_text.specs.declared.fault.ConfFault.{ConfFault};
 
-use crate::bytes::List;
 use crate::cursor::Fields;
 use crate::fault::{ConfFault, LineError};
+use base::List;
 use std::alloc::Global;
 
 /// A table of options. What an option gives may depend on the table's own value.

@@ -1,9 +1,10 @@
 //! What no clause says: that the calls succeed, and vectors made by hand from the format.
 
+use base::{Bytes, List};
 use site_text::{
-    Bytes, CommandFile, ConfError, ConfFault, ConfRefusal, Fields, Line, LineError, List,
-    OptionTable, TextRefusal, cut_fields, lines, number_value, option_named, read_age, read_file,
-    read_options, read_size, read_weight,
+    CommandFile, ConfError, ConfFault, ConfRefusal, Fields, Line, LineError, OptionTable,
+    TextRefusal, cut_fields, lines, number_value, option_named, read_age, read_file, read_options,
+    read_size, read_weight,
 };
 use std::alloc::{AllocError, Global};
 use std::test::Fail;

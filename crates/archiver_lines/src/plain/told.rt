@@ -7,7 +7,7 @@ use crate::known::{Known, MOST_EXPRS, mention, part_named};
 use crate::reading::{
     Assignment, Local, Opened, ParamsLine, PoolLine, Reading, Section, SetCopy, VsnsLine,
 };
-use site_text::{Bytes, List};
+use base::{Bytes, List};
 use std::alloc::{AllocError, Global};
 
 /// The section that is open behind lines that said these.

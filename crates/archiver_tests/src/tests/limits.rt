@@ -1,7 +1,8 @@
 //! How many lines, sets and expressions there may be, and how long a path.
 
 use super::{Refusal, plain_refusal, refusal};
-use site_text::{Bytes, ConfFault};
+use base::Bytes;
+use site_text::ConfFault;
 use std::alloc::{AllocError, Global};
 use std::test::Fail;
 

@@ -4,7 +4,7 @@ use super::shown::both_shown;
 use archiver_cmd::{
     ArchiverConf, Owner, Params, Reserve, Sort, SortKey, plain_archiver, read_archiver,
 };
-use site_text::{Bytes, List};
+use base::{Bytes, List};
 use std::alloc::{AllocError, Global};
 use std::test::Fail;
 

@@ -4,7 +4,7 @@ use archiver_cmd::{
     ArchiverConf, Assignment, CopyConf, CopyName, ParamsLine, SetConf, VsnsGroup, plain_archiver,
     read_archiver,
 };
-use site_text::{Bytes, List};
+use base::{Bytes, List};
 use std::alloc::{AllocError, Global};
 use std::test::Fail;
 

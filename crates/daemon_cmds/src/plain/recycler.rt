@@ -11,7 +11,8 @@ use crate::recycler_conf::{
 };
 use crate::recycler_lines::{copies_of, read_recycler_line};
 use crate::site_conf::{Library, SiteConf};
-use site_text::{CommandFile, ConfError, Line, LineError, List, read_file};
+use base::List;
+use site_text::{CommandFile, ConfError, Line, LineError, read_file};
 use std::alloc::{AllocError, Global};
 
 fn hwm_in(option: RecycleOption) -> Option<u32>

@@ -12,7 +12,8 @@ use crate::releaser::conf_of;
 use crate::releaser_conf::{PartSetting, ReleaserConf, ReleaserReading, Setting, Settings, Weight};
 use crate::releaser_lines::read_releaser_line;
 use crate::site_conf::SiteConf;
-use site_text::{Bytes, CommandFile, ConfError, Line, LineError, List, read_file};
+use base::{Bytes, List};
+use site_text::{CommandFile, ConfError, Line, LineError, read_file};
 use std::alloc::{AllocError, Global};
 
 /// The file system whose part is open.

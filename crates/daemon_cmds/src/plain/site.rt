@@ -8,7 +8,8 @@ ghost use Rattle.daemon_cmds.specs.SiteTold.{name_of, cache_of, high_of, low_of,
 
 use crate::site_conf::{Library, SiteConf, SiteReading, SiteSoFar, Volume};
 use crate::site_lines::read_site_line;
-use site_text::{Bytes, CommandFile, ConfError, Line, LineError, List, read_file};
+use base::{Bytes, List};
+use site_text::{CommandFile, ConfError, Line, LineError, read_file};
 use std::alloc::{AllocError, Global};
 
 fn name_of(said: &[SiteReading]) -> Result<Option<Bytes>, AllocError>

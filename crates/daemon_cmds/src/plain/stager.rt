@@ -8,7 +8,8 @@ ghost use Rattle.daemon_cmds.specs.StagerTold.{drives_of, maxactive_of, copysel_
 use crate::site_conf::{Library, SiteConf};
 use crate::stager_conf::{StagerConf, StagerReading};
 use crate::stager_lines::read_stager_line;
-use site_text::{CommandFile, ConfError, Line, LineError, List, read_file};
+use base::List;
+use site_text::{CommandFile, ConfError, Line, LineError, read_file};
 use std::alloc::{AllocError, Global};
 
 /// The drives of each library, of which no line tells.

@@ -1,10 +1,11 @@
 //! recycler.cmd.
 
 use super::{Refused, SITE, Said, push_number, refused};
+use base::Bytes;
 use daemon_cmds::{
     LibraryRecycling, NoRecycle, RecyclerConf, plain_recycler, read_recycler, read_site,
 };
-use site_text::{Bytes, ConfError, ConfFault};
+use site_text::{ConfError, ConfFault};
 use std::alloc::{AllocError, Global};
 use std::test::Fail;
 

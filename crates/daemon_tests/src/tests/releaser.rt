@@ -1,8 +1,9 @@
 //! releaser.cmd.
 
 use super::{Refused, SITE, Said, push_number, refused};
+use base::Bytes;
 use daemon_cmds::{AgeWeights, ReleaserConf, plain_releaser, read_releaser, read_site};
-use site_text::{Bytes, ConfError, ConfFault};
+use site_text::{ConfError, ConfFault};
 use std::alloc::{AllocError, Global};
 use std::test::Fail;
 

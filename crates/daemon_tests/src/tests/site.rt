@@ -1,8 +1,9 @@
 //! site.conf.
 
 use super::{Refused, Said, push_number, refused};
+use base::Bytes;
 use daemon_cmds::{Library, SiteConf, Volume, plain_site, read_site};
-use site_text::{Bytes, ConfError, ConfFault};
+use site_text::{ConfError, ConfFault};
 use std::alloc::{AllocError, Global};
 use std::test::Fail;
 

@@ -1,8 +1,9 @@
 //! How many libraries and volumes a site.conf may have.
 
 use super::{push_number, refused};
+use base::Bytes;
 use daemon_cmds::{plain_site, read_site};
-use site_text::{Bytes, ConfError, ConfFault};
+use site_text::{ConfError, ConfFault};
 use std::alloc::{AllocError, Global};
 use std::test::Fail;
 

@@ -1,8 +1,9 @@
 //! stager.cmd.
 
 use super::{Refused, SITE, Said, push_number, refused};
+use base::Bytes;
 use daemon_cmds::{StagerConf, plain_stager, read_site, read_stager};
-use site_text::{Bytes, ConfError, ConfFault};
+use site_text::{ConfError, ConfFault};
 use std::alloc::{AllocError, Global};
 use std::test::Fail;
 

@@ -3,7 +3,7 @@
 ghost use Rattle.std.specs.Prelude.{◌≡◌, ◌≤◌, length, IfOk};
 
 use crate::folder::{Folder, FolderFault, LONGEST_READ};
-use site_text::Bytes;
+use base::Bytes;
 use std::alloc::{AllocError, Global};
 use std::io::{ErrorKind, Read};
 use std::path::Path;

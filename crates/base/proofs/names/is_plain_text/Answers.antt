@@ -2,8 +2,8 @@ use Rattle.std.proofs.Common.{◌≡◌, ℕ, Bool, true, false, List, refl, ◌
 use Rattle.std.specs.List.{list_all}
 use Rattle.std.specs.Str.{IsUtf8, is_utf8, chars}
 use Rattle.std.proofs.lemmas.Str.{is_utf8-from_IsUtf8, IsUtf8-from_is_utf8}
-use Rattle.records.specs.Paths.{is_path_char, is_plain_text}
-use Rattle.records.proofs.names.is_plain_text.Goals as goal
+use Rattle.base.specs.Paths.{is_path_char, is_plain_text}
+use Rattle.base.proofs.names.is_plain_text.Goals as goal
 
 no_text : (path : List ℕ) → ¬ (IsUtf8 path) → false ≡ is_plain_text path
 no_text path h = elim_of (is_utf8 path) refl

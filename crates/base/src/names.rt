@@ -3,7 +3,7 @@
 ghost use Rattle.std.specs.Prelude.{◌≡◌, ◌==◌};
 ghost use Rattle.std.specs.List.{list_all, slice_split};
 ghost use Rattle.std.specs.Str.{chars};
-ghost use Rattle.records.specs.Paths.{is_path_char, is_part, parts, is_legal_path, is_name_char, is_legal_name, begins_with_slash, is_of_length, is_plain_text};
+ghost use Rattle.base.specs.Paths.{is_path_char, is_part, parts, is_legal_path, is_name_char, is_legal_name, begins_with_slash, is_of_length, is_plain_text};
 
 use std::str;
 
