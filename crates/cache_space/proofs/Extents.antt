@@ -2,7 +2,7 @@
 use Rattle.std.proofs.Common.{◌≡◌, ℕ, ◌+◌, ◌*◌, ◌<◌, ◌≤◌, Bool, true, false, ◌||◌, List, [], ◌∷◌, length, get_or, refl, ◌⊎◌, inl, inr, ⊎_elim, arith, suc, zero}
 use Rattle.std.proofs.lemmas.Bool.{both_ways, or_left, cases_lt, false_from_ne_true}
 use Rattle.std.proofs.lemmas.List.Folds.{list_any_at}
-use Rattle.records.specs.declared.file.Run.{Run}
+use Rattle.site_types.specs.declared.file.Run.{Run}
 use Rattle.cache_space.specs.Blocks.{is_in_run, is_in_runs}
 use Rattle.cache_space.specs.Space.{AreApart, AreDisjoint}
 use Rattle.cache_space.proofs.RunLemmas.{is_in_run_from}

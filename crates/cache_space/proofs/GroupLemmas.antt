@@ -1,7 +1,7 @@
 -- Groups of blocks, and the marks of those that are full.
 use Rattle.std.proofs.Common.{◌≡◌, ℕ, ◌+◌, ◌-◌, ◌*◌, ◌/◌, ◌<◌, ◌≤◌, min, Bool, true, false, not, ◌||◌, List, [], ◌++◌, length, take, get_or, sym, ◌∙◌, ap, arith}
 use Rattle.std.proofs.lemmas.List.{append-nil, append_assoc, length-append}
-use Rattle.records.specs.declared.file.Run.{Run}
+use Rattle.site_types.specs.declared.file.Run.{Run}
 use Rattle.cache_space.specs.Blocks.{is_in_runs, as_runs}
 use Rattle.cache_space.specs.Flags.{is_open, open_blocks, FullAreTaken}
 use Rattle.cache_space.proofs.OpenBlocks.{open_blocks-add, filter-range_none, take-append}

@@ -5,7 +5,7 @@ use Rattle.std.specs.List.Sorted.{IsPermutation}
 use Rattle.std.proofs.lemmas.Bool.{both_ways, or_cases, or_parts, or_from, false_from_ne_true}
 use Rattle.std.proofs.lemmas.List.Elements.{filter_agree}
 use Rattle.std.proofs.lemmas.List.Sorted.{list_any-IsPermutation}
-use Rattle.records.specs.declared.file.Run.{Run}
+use Rattle.site_types.specs.declared.file.Run.{Run}
 use Rattle.cache_space.specs.Blocks.{is_in_run, is_in_runs, free_blocks, as_runs, lowest_runs}
 use Rattle.cache_space.specs.Space.{taken_by, AreThere, AreApart, AreDisjoint}
 use Rattle.cache_space.proofs.RunLemmas.{is_in_runs-append}

@@ -6,7 +6,7 @@ use Rattle.std.proofs.lemmas.Bool.Decides.{nat_tests}
 use Rattle.std.proofs.lemmas.List.{length-take-le}
 use Rattle.std.proofs.lemmas.List.Elements.{All-nil, All-cons}
 use Rattle.std.proofs.lemmas.List.Sums.{sum_by-cons, get_or-le-sum_by}
-use Rattle.records.specs.declared.file.Run.{Run}
+use Rattle.site_types.specs.declared.file.Run.{Run}
 use Rattle.cache_space.specs.Blocks.{is_in_run, is_in_runs, put_before, as_runs, free_blocks, lowest_runs}
 use Rattle.cache_space.specs.Space.{AreThere, AreApart, AreFree, AreDisjoint, AreMaximalFrom, AreMaximal, blocks_in}
 use Rattle.cache_space.proofs.RunLemmas.{is_in_run_tells, is_in_run_from}

@@ -5,7 +5,7 @@ use Rattle.std.proofs.lemmas.Bool.{both_ways, or_left, or_right, true≢false, f
 use Rattle.std.proofs.lemmas.List.{length-append}
 use Rattle.std.proofs.lemmas.List.Elements.{filter-append}
 use Rattle.std.proofs.lemmas.List.Sums.{sum_by-cons}
-use Rattle.records.specs.declared.file.Run.{Run}
+use Rattle.site_types.specs.declared.file.Run.{Run}
 use Rattle.cache_space.specs.Blocks.{is_in_run, is_in_runs, free_blocks}
 use Rattle.cache_space.specs.Space.{AreThere, AreDisjoint, blocks_in}
 use Rattle.cache_space.proofs.RunLemmas.{is_in_run_tells, is_in_run_from}

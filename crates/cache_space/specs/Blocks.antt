@@ -1,7 +1,7 @@
 -- Blocks of the cache, and which of them are free.
 use Rattle.std.specs.Prelude.{ℕ, ◌+◌, ◌/◌, ◌==◌, ◌&&◌, nat_le, nat_lt, Bool, not, if◌then◌else◌, List, [], ◌∷◌, filter, take}
 use Rattle.std.specs.List.{list_any, range_with_len}
-use Rattle.records.specs.declared.file.Run.{Run}
+use Rattle.site_types.specs.declared.file.Run.{Run}
 
 -- how many blocks of 4,096 bytes so many bytes need
 abbrev pub blocks_for : ℕ → ℕ

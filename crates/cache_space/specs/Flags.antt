@@ -1,7 +1,7 @@
 -- Blocks by a flag for each, which tells whether it is taken.
 use Rattle.std.specs.Prelude.{◌≡◌, ℕ, ◌+◌, ◌<◌, Bool, true, not, ◌||◌, ◌&&◌, List, length, filter, slice_index_or, ◌/◌, ◌^◌, IsTrue, IsFalse, false, count_by}
 use Rattle.std.specs.List.{range_with_len}
-use Rattle.records.specs.declared.file.Run.{Run}
+use Rattle.site_types.specs.declared.file.Run.{Run}
 use Rattle.cache_space.specs.Blocks.{is_in_runs}
 
 -- a block that is there, is not taken and is in none of the runs

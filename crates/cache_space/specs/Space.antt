@@ -1,7 +1,7 @@
 -- The cache as the runs that are held say it.
 use Rattle.std.specs.Prelude.{ℕ, ◌+◌, ◌<◌, ◌≤◌, Bool, IsTrue, IsFalse, List, [], ◌∷◌, map, sum_by}
 use Rattle.std.specs.List.{range_with_len}
-use Rattle.records.specs.declared.file.Run.{Run}
+use Rattle.site_types.specs.declared.file.Run.{Run}
 use Rattle.cache_space.specs.Blocks.{is_in_runs}
 
 -- of so many blocks, for each from 0 on, whether one of the runs has it

@@ -5,7 +5,7 @@ ghost use Rattle.cache_space.specs.Blocks.{is_in_run, is_in_runs, as_runs};
 ghost use Rattle.cache_space.specs.Flags.{is_open, open_blocks, Takes, Frees};
 
 use crate::runs::{add_block, end_of, has_block};
-use records::Run;
+use site_types::Run;
 use std::alloc::AllocError;
 
 /// The block behind those of a run that are there.

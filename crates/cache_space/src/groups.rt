@@ -8,7 +8,7 @@ ghost use Rattle.cache_space.specs.Flags.{open_blocks, FullAreTaken, AreCleared}
 use crate::flags::{add_lowest, lacking};
 use crate::refusal::SpaceRefusal;
 use crate::runs::end_of;
-use records::Run;
+use site_types::Run;
 use std::alloc::{AllocError, Global};
 
 /// How many blocks a group has.

@@ -5,7 +5,7 @@ ghost use Rattle.cache_space.specs.Blocks.{free_blocks, as_runs, lowest_runs};
 
 use crate::runs::has_block;
 use base::List;
-use records::Run;
+use site_types::Run;
 use std::alloc::{AllocError, Global};
 
 /// Of so many blocks, those that none of the runs has, in order.

@@ -4,7 +4,7 @@ ghost use Rattle.std.specs.Prelude.{◌≡◌, ℕ, ◌+◌, ◌-◌, ◌<◌, �
 ghost use Rattle.cache_space.specs.Space.{AreMaximal, blocks_in};
 ghost use Rattle.cache_space.specs.Blocks.{blocks_for, is_in_runs, as_runs};
 
-use records::Run;
+use site_types::Run;
 use std::alloc::AllocError;
 
 /// How many blocks of 4,096 bytes so many bytes need.

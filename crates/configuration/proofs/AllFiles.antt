@@ -19,9 +19,9 @@ use Rattle.archiver_lines.specs.Says.{LineSays}
 use Rattle.archiver_lines.specs.Told.{open_line}
 use Rattle.archiver_cmd.specs.declared.conf.ArchiverConf.{ArchiverConf}
 use Rattle.archiver_cmd.specs.Conf.{Tells}
-use Rattle.records.specs.declared.file.SiteTexts.{SiteTexts}
-use Rattle.records.specs.declared.reply.CommandFile.{CommandFile}
-use Rattle.records.specs.declared.reply.CommandFile.TheVariants.{Recycler}
+use Rattle.site_types.specs.declared.file.SiteTexts.{SiteTexts}
+use Rattle.site_events.specs.declared.reply.CommandFile.{CommandFile}
+use Rattle.site_events.specs.declared.reply.CommandFile.TheVariants.{Recycler}
 use Rattle.configuration.specs.declared.read.Configuration.{Configuration}
 use Rattle.configuration.specs.declared.read.ConfigurationError.{ConfigurationError}
 use Rattle.configuration.specs.declared.read.ConfigurationError.TheVariants.{Refused, NoMemory}

@@ -22,13 +22,13 @@ use Rattle.daemon_cmds.proofs.CacheRange.{IsCacheSize, cache_in_range}
 use Rattle.archiver_lines.specs.declared.reading.Reading.{Reading}
 use Rattle.archiver_lines.specs.Says.{LineSays}
 use Rattle.archiver_lines.specs.Told.{open_line}
-use Rattle.records.specs.declared.file.SiteTexts.{SiteTexts}
-use Rattle.records.specs.declared.reply.CommandFile.{CommandFile}
-use Rattle.records.specs.declared.reply.CommandFile.TheVariants.{Site, Archiver, Stager, Releaser, Recycler}
+use Rattle.site_types.specs.declared.file.SiteTexts.{SiteTexts}
+use Rattle.site_events.specs.declared.reply.CommandFile.{CommandFile}
+use Rattle.site_events.specs.declared.reply.CommandFile.TheVariants.{Site, Archiver, Stager, Releaser, Recycler}
 use Rattle.configuration.specs.declared.read.FileRefusal.{FileRefusal}
 use Rattle.configuration.specs.declared.read.Configuration.{Configuration}
 use Rattle.configuration.specs.Readings.{IsWithin, AreWithin, is_within, are_within, site_reading, site_told, archiver_reading, stager_reading, releaser_reading, recycler_reading, first_of, refusal_in, refusal_within, refusal_by, refusal_of, cache_by, blocks_of}
-use Rattle.records.specs.Texts.{no_texts}
+use Rattle.site_types.specs.Texts.{no_texts}
 use Rattle.configuration.specs.Says.{Readings, SayReadings, Says, IsFirstWrong}
 use Rattle.configuration.proofs.EachFile.{site_means, archiver_means, stager_means, releaser_means, recycler_means}
 

@@ -3,7 +3,7 @@ use Rattle.std.specs.Prelude.{◌≡◌, ℕ, List, [], take, codes, Option, Som
 use Rattle.std.specs.Option.{option_map_or}
 use Rattle.outside.specs.declared.folder.NamedText.{NamedText}
 use Rattle.outside.specs.Folders.{text_under}
-use Rattle.records.specs.declared.file.SiteTexts.{SiteTexts}
+use Rattle.site_types.specs.declared.file.SiteTexts.{SiteTexts}
 
 -- The text under a name, up to its 65,537th byte: a longer one is too large for a command file, whatever follows. Where there is
 -- none it is empty.

@@ -15,9 +15,9 @@ use Rattle.daemon_cmds.specs.RecyclerTold.{recycler_line}
 use Rattle.archiver_lines.specs.declared.reading.Reading.{Reading}
 use Rattle.archiver_lines.specs.Lines.{line_of}
 use Rattle.archiver_lines.specs.Told.{open_line}
-use Rattle.records.specs.declared.file.SiteTexts.{SiteTexts}
-use Rattle.records.specs.declared.reply.CommandFile.{CommandFile}
-use Rattle.records.specs.declared.reply.CommandFile.TheVariants.{Site, Archiver, Stager, Releaser, Recycler}
+use Rattle.site_types.specs.declared.file.SiteTexts.{SiteTexts}
+use Rattle.site_events.specs.declared.reply.CommandFile.{CommandFile}
+use Rattle.site_events.specs.declared.reply.CommandFile.TheVariants.{Site, Archiver, Stager, Releaser, Recycler}
 use Rattle.configuration.specs.declared.read.FileRefusal.{FileRefusal}
 
 -- a command file has at most 65,536 bytes

@@ -20,9 +20,9 @@ use Rattle.archiver_lines.specs.declared.reading.Reading.{Reading}
 use Rattle.archiver_lines.specs.Says.{LineSays, LineWrong}
 use Rattle.archiver_lines.specs.Told.{open_line}
 use Rattle.archiver_cmd.specs.Conf.{Tells}
-use Rattle.records.specs.declared.file.SiteTexts.{SiteTexts}
-use Rattle.records.specs.declared.reply.CommandFile.{CommandFile}
-use Rattle.records.specs.declared.reply.CommandFile.TheVariants.{Site, Archiver, Stager, Releaser, Recycler}
+use Rattle.site_types.specs.declared.file.SiteTexts.{SiteTexts}
+use Rattle.site_events.specs.declared.reply.CommandFile.{CommandFile}
+use Rattle.site_events.specs.declared.reply.CommandFile.TheVariants.{Site, Archiver, Stager, Releaser, Recycler}
 use Rattle.configuration.specs.Readings.{site_told, refusal_of}
 use Rattle.configuration.specs.declared.read.FileRefusal.{FileRefusal}
 use Rattle.configuration.specs.declared.read.Configuration.{Configuration}

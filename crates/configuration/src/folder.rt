@@ -6,7 +6,7 @@ ghost use Rattle.configuration.specs.FolderTexts.{AreRead, IsRead};
 
 use base::Bytes;
 use outside::{Folder, FolderFault};
-use records::SiteTexts;
+use site_types::SiteTexts;
 use std::alloc::Global;
 
 /// The text of a name, up to its 65,537th byte. Where there is none it is empty.

@@ -1,7 +1,7 @@
 //! What is said of the five command files together.
 
 ghost use Rattle.std.specs.Prelude.{◌≡◌, ◌↔◌, ◌≤◌, ◌/◌, None, Some};
-ghost use Rattle.records.specs.declared.file.SiteTexts.{SiteTexts};
+ghost use Rattle.site_types.specs.declared.file.SiteTexts.{SiteTexts};
 ghost use Rattle.configuration.specs.declared.read.Configuration.{Configuration};
 ghost use Rattle.configuration.specs.declared.read.FileRefusal.{FileRefusal};
 ghost use Rattle.configuration.specs.Readings.{refusal_of, blocks_of};

@@ -9,8 +9,8 @@ ghost use Rattle.daemon_cmds.specs.RecyclerTold.{RecyclerLineSays, RecyclerLineW
 ghost use Rattle.archiver_lines.specs.Says.{LineSays, LineWrong};
 ghost use Rattle.archiver_lines.specs.Told.{open_line};
 ghost use Rattle.archiver_cmd.specs.Conf.{Tells};
-ghost use Rattle.records.specs.declared.file.SiteTexts.{SiteTexts};
-ghost use Rattle.records.specs.declared.reply.CommandFile.TheVariants.{Site, Archiver, Stager, Releaser, Recycler};
+ghost use Rattle.site_types.specs.declared.file.SiteTexts.{SiteTexts};
+ghost use Rattle.site_events.specs.declared.reply.CommandFile.TheVariants.{Site, Archiver, Stager, Releaser, Recycler};
 ghost use Rattle.configuration.specs.Readings.{AreWithin, is_within, are_within, refusal_of, blocks_of};
 ghost use Rattle.configuration.specs.Says.{Says, ConfigurationAnswers, TellsRefusal, FileTold, in_file};
 
@@ -20,7 +20,8 @@ use daemon_cmds::{
     RecyclerConf, ReleaserConf, SiteConf, StagerConf, read_recycler, read_releaser, read_site,
     read_stager,
 };
-use records::{CommandFile, SiteTexts};
+use site_types::SiteTexts;
+use site_events::CommandFile;
 use site_text::{ConfError, ConfFault};
 use std::alloc::Global;
 

@@ -5,7 +5,8 @@ use configuration::{
     Configuration, ConfigurationError, FileRefusal, are_within, read_configuration, read_texts,
 };
 use outside::{FolderFault, MemoryFolder, NamedText};
-use records::{CommandFile, SiteTexts};
+use site_types::SiteTexts;
+use site_events::CommandFile;
 use site_text::ConfFault;
 use std::alloc::{AllocError, Global};
 use std::test::Fail;

@@ -2,7 +2,7 @@
 use Rattle.std.proofs.Common.{◌≡◌, ℕ, ◌<◌, ◌≤◌, false, List, length, Err, refl, arith}
 use Rattle.std.proofs.lemmas.Bool.{lt-ltb, le-ltb}
 use Rattle.std.proofs.lemmas.Grind.{common_steps}
-use Rattle.records.specs.declared.reply.LineRefusal.TheVariants.{LineTooLong}
+use Rattle.site_events.specs.declared.reply.LineRefusal.TheVariants.{LineTooLong}
 use Rattle.desk.specs.Asks.{asked_of, command_of, is_skipped}
 
 -- a line of over 4,096 bytes is too long, whatever its bytes

@@ -2,9 +2,9 @@
 use Rattle.std.proofs.Common.{◌≡◌, ℕ, ◌<◌, ◌≤◌, List, length, Option, Some, None, Ok, Err, refl, sym, ap, subst, ◌∙◌, ◌⊎◌, inl, inr}
 use Rattle.std.proofs.lemmas.Bool.{cases_lt}
 use Rattle.site_text.specs.Words.{named}
-use Rattle.records.specs.declared.event.Asked.{Asked}
-use Rattle.records.specs.declared.reply.LineRefusal.{LineRefusal}
-use Rattle.records.specs.declared.reply.LineRefusal.TheVariants.{NotACommand, BadWord, LineTooLong, NoMemory}
+use Rattle.site_events.specs.declared.event.Asked.{Asked}
+use Rattle.site_events.specs.declared.reply.LineRefusal.{LineRefusal}
+use Rattle.site_events.specs.declared.reply.LineRefusal.TheVariants.{NotACommand, BadWord, LineTooLong, NoMemory}
 use Rattle.desk.specs.declared.commands.Command.{Command}
 use Rattle.desk.specs.Forms.{Read, ◌>>=◌, Values, first_word, after_word, values_at}
 use Rattle.desk.specs.Asks.{commands, forms_of, asked_with, asked_by, command_of, asked_of}

@@ -2,8 +2,8 @@
 use Rattle.std.proofs.Common.{◌≡◌, ℕ, zero, suc, ◌+◌, ◌<◌, ◌≤◌, List, [], ◌∷◌, length, take, drop, Option, Some, None, Ok, Err, refl, sym, ap, subst, ◌∙◌, arith, ◌⊎◌, inl, inr}
 use Rattle.site_text.specs.Numbers.{number_in, number_within}
 use Rattle.site_text.specs.Sizes.{size_in_bytes}
-use Rattle.records.specs.declared.reply.LineRefusal.{LineRefusal}
-use Rattle.records.specs.declared.reply.LineRefusal.TheVariants.{BadWord}
+use Rattle.site_events.specs.declared.reply.LineRefusal.{LineRefusal}
+use Rattle.site_events.specs.declared.reply.LineRefusal.TheVariants.{BadWord}
 use Rattle.desk.specs.Forms.{Form, Word, Number, Size, Rest, Value, Values, Read, ◌>>=◌, any_word, size_word, first_word, after_word, told, word_at, number_at, size_at, end_at, value_at, values_at}
 use Rattle.desk.specs.Says.{IsBlank, WordStands, word_value, WordSays, WordUnfit, StandsBehind, Says, IsWrong, BeginsWith, AllSay, WordFollows, WrongHere, FirstWrong}
 use Rattle.desk.proofs.WordCuts.{Front, front_of, first_is, after_is, blank_has_none}

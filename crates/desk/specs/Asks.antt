@@ -2,10 +2,10 @@
 use Rattle.std.specs.Prelude.{◌≡◌, ℕ, ◌+◌, ◌-◌, ◌%◌, ◌^◌, List, [], ◌∷◌, codes, length, map, min, Option, Some, None, Ok, Err, Bool, nat_lt, nat_le, ◌==◌, ◌&&◌, ◌||◌, slice_index, if◌then◌else◌}
 use Rattle.std.specs.List.{list_all, range_with_len}
 use Rattle.site_text.specs.Words.{named}
-use Rattle.records.specs.declared.event.Event.TheVariants.{Put as PutEvent, Read as ReadEvent, Remove as RemoveEvent}
-use Rattle.records.specs.declared.event.Asked.{Asked}
-use Rattle.records.specs.declared.event.Asked.TheVariants.{One, At as AtMoment, Configure as AskedConfigure}
-use Rattle.records.specs.declared.reply.LineRefusal.TheVariants.{NotACommand, BadWord, LineTooLong, NoMemory}
+use Rattle.site_events.specs.declared.event.Event.TheVariants.{Put as PutEvent, Read as ReadEvent, Remove as RemoveEvent}
+use Rattle.site_events.specs.declared.event.Asked.{Asked}
+use Rattle.site_events.specs.declared.event.Asked.TheVariants.{One, At as AtMoment, Configure as AskedConfigure}
+use Rattle.site_events.specs.declared.reply.LineRefusal.TheVariants.{NotACommand, BadWord, LineTooLong, NoMemory}
 use Rattle.desk.specs.declared.commands.Command.{Command}
 use Rattle.desk.specs.declared.commands.Command.TheVariants.{At, Put, Make, Cat, Head, Remove, Configure}
 use Rattle.desk.specs.Forms.{is_blank, first_word, after_word, Read, ◌>>=◌, Form, Word, NumberWord, Size, Seed, Rest, Values, values_at}

@@ -4,8 +4,8 @@ use Rattle.std.specs.List.{position_or_len, before_first}
 use Rattle.site_text.specs.Numbers.{number_within}
 use Rattle.site_text.specs.Sizes.{size_of}
 use Rattle.site_text.specs.declared.refusal.TextRefusal.{TextRefusal}
-use Rattle.records.specs.declared.reply.LineRefusal.{LineRefusal}
-use Rattle.records.specs.declared.reply.LineRefusal.TheVariants.{NotACommand, BadWord, LineTooLong, NoMemory}
+use Rattle.site_events.specs.declared.reply.LineRefusal.{LineRefusal}
+use Rattle.site_events.specs.declared.reply.LineRefusal.TheVariants.{NotACommand, BadWord, LineTooLong, NoMemory}
 
 -- blanks are space and tab
 abbrev pub is_blank : ℕ → Bool

@@ -3,9 +3,9 @@ use Rattle.std.specs.Prelude.{◌≡◌, ℕ, ◌+◌, ◌<◌, ◌≤◌, List,
 use Rattle.std.specs.List.{list_all}
 use Rattle.site_text.specs.Numbers.{number_within}
 use Rattle.site_text.specs.Words.{named}
-use Rattle.records.specs.declared.event.Asked.{Asked}
-use Rattle.records.specs.declared.reply.LineRefusal.{LineRefusal}
-use Rattle.records.specs.declared.reply.LineRefusal.TheVariants.{NotACommand, BadWord, LineTooLong, NoMemory}
+use Rattle.site_events.specs.declared.event.Asked.{Asked}
+use Rattle.site_events.specs.declared.reply.LineRefusal.{LineRefusal}
+use Rattle.site_events.specs.declared.reply.LineRefusal.TheVariants.{NotACommand, BadWord, LineTooLong, NoMemory}
 use Rattle.desk.specs.declared.commands.Command.{Command}
 use Rattle.desk.specs.Forms.{is_blank, is_of_word, Form, Word, Number, Size, Rest, Value, Values, any_word, size_word}
 use Rattle.desk.specs.Asks.{commands, forms_of, asked_with}

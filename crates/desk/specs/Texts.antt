@@ -2,26 +2,26 @@
 use Rattle.std.specs.Prelude.{ℕ, List, [], ◌∷◌, ◌++◌, codes, decimal, map, length, take, Bool, if◌then◌else◌}
 use Rattle.std.specs.List.{join_with_byte, flat_map}
 use Rattle.site_text.specs.Faults.{fault_text}
-use Rattle.records.specs.declared.event.Daemon.{Daemon}
-use Rattle.records.specs.declared.event.Daemon.TheVariants.{Archiver as ArchiverDaemon, Stager as StagerDaemon, Releaser as ReleaserDaemon, Recycler as RecyclerDaemon}
-use Rattle.records.specs.declared.reply.Vsn.{Vsn}
-use Rattle.records.specs.declared.reply.CommandFile.{CommandFile}
-use Rattle.records.specs.declared.reply.CommandFile.TheVariants.{Site, Archiver, Stager, Releaser, Recycler}
-use Rattle.records.specs.declared.reply.LineRefusal.{LineRefusal}
-use Rattle.records.specs.declared.reply.LineRefusal.TheVariants.{NotACommand, BadWord, LineTooLong, NoMemory as WantOfMemory}
-use Rattle.records.specs.declared.reply.Rule.{Rule}
-use Rattle.records.specs.declared.reply.Rule.TheVariants.{NoFile, Exists, BadPath, NoSpace, VolumeNotAllowed, LastData, StillCurrent, NotOffline, Never, QueueFull, TooLarge, TooMany, BadAttribute, NoCopy, NoVolume, Unreachable, Running}
-use Rattle.records.specs.declared.reply.IdleCause.{IdleCause}
-use Rattle.records.specs.declared.reply.IdleCause.TheVariants.{NothingDue, NotStarted, Waiting, NoDrive, NoVolume as NoVolumeFree, NothingWanted, NoSpace as NoBlocks, NoRelease, BelowMark, NoCandidate, Draining}
-use Rattle.records.specs.declared.reply.FileState.{FileState}
-use Rattle.records.specs.declared.reply.FileState.TheVariants.{Online, Offline, Partial}
-use Rattle.records.specs.declared.reply.FileRow.{FileRow}
-use Rattle.records.specs.declared.reply.VolumeRow.{VolumeRow}
-use Rattle.records.specs.declared.reply.SetRow.{SetRow}
-use Rattle.records.specs.declared.reply.QueueRow.{QueueRow}
-use Rattle.records.specs.declared.reply.SummaryRow.{SummaryRow}
-use Rattle.records.specs.declared.reply.Reply.{Reply}
-use Rattle.records.specs.declared.reply.Reply.TheVariants.{Stored, Done, At, Bytes, Staging, Started, Moved, Made, Dropped, Unarchived, Wanted, Released, Staged, StageFailed, Damaged, Marked, Relabelled, Settled, Idle, Files, Volumes, Sets, Queue, Summary, Refused, Claimed, ConfRefused, PatternRefused, JournalFull, Line, BankFault, FolderFault, BadJournal, NoMemory}
+use Rattle.site_events.specs.declared.event.Daemon.{Daemon}
+use Rattle.site_events.specs.declared.event.Daemon.TheVariants.{Archiver as ArchiverDaemon, Stager as StagerDaemon, Releaser as ReleaserDaemon, Recycler as RecyclerDaemon}
+use Rattle.site_events.specs.declared.reply.Vsn.{Vsn}
+use Rattle.site_events.specs.declared.reply.CommandFile.{CommandFile}
+use Rattle.site_events.specs.declared.reply.CommandFile.TheVariants.{Site, Archiver, Stager, Releaser, Recycler}
+use Rattle.site_events.specs.declared.reply.LineRefusal.{LineRefusal}
+use Rattle.site_events.specs.declared.reply.LineRefusal.TheVariants.{NotACommand, BadWord, LineTooLong, NoMemory as WantOfMemory}
+use Rattle.site_events.specs.declared.reply.Rule.{Rule}
+use Rattle.site_events.specs.declared.reply.Rule.TheVariants.{NoFile, Exists, BadPath, NoSpace, VolumeNotAllowed, LastData, StillCurrent, NotOffline, Never, QueueFull, TooLarge, TooMany, BadAttribute, NoCopy, NoVolume, Unreachable, Running}
+use Rattle.site_events.specs.declared.reply.IdleCause.{IdleCause}
+use Rattle.site_events.specs.declared.reply.IdleCause.TheVariants.{NothingDue, NotStarted, Waiting, NoDrive, NoVolume as NoVolumeFree, NothingWanted, NoSpace as NoBlocks, NoRelease, BelowMark, NoCandidate, Draining}
+use Rattle.site_events.specs.declared.reply.FileState.{FileState}
+use Rattle.site_events.specs.declared.reply.FileState.TheVariants.{Online, Offline, Partial}
+use Rattle.site_events.specs.declared.reply.FileRow.{FileRow}
+use Rattle.site_events.specs.declared.reply.VolumeRow.{VolumeRow}
+use Rattle.site_events.specs.declared.reply.SetRow.{SetRow}
+use Rattle.site_events.specs.declared.reply.QueueRow.{QueueRow}
+use Rattle.site_events.specs.declared.reply.SummaryRow.{SummaryRow}
+use Rattle.site_events.specs.declared.reply.Reply.{Reply}
+use Rattle.site_events.specs.declared.reply.Reply.TheVariants.{Stored, Done, At, Bytes, Staging, Started, Moved, Made, Dropped, Unarchived, Wanted, Released, Staged, StageFailed, Damaged, Marked, Relabelled, Settled, Idle, Files, Volumes, Sets, Queue, Summary, Refused, Claimed, ConfRefused, PatternRefused, JournalFull, Line, BankFault, FolderFault, BadJournal, NoMemory}
 
 -- words in a row, a blank between each two
 unfoldable pub words : List (List ℕ) → List ℕ

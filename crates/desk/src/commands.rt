@@ -7,7 +7,7 @@ ghost use Rattle.desk.specs.Asks.{commands, asked_by, Answers};
 
 use crate::made::make_bytes;
 use crate::words::Words;
-use records::{Asked, Event, LineRefusal};
+use site_events::{Asked, Event, LineRefusal};
 use site_text::find_word;
 use std::alloc::Global;
 

@@ -1,8 +1,8 @@
 //! What a line looks like that asks something, and that the readings agree with it.
 
 ghost use Rattle.std.specs.Prelude.{◌≡◌, ◌↔◌, ℕ, List as Seq, Ok, Err};
-ghost use Rattle.records.specs.declared.event.Asked.{Asked};
-ghost use Rattle.records.specs.declared.reply.LineRefusal.{LineRefusal};
+ghost use Rattle.site_events.specs.declared.event.Asked.{Asked};
+ghost use Rattle.site_events.specs.declared.reply.LineRefusal.{LineRefusal};
 ghost use Rattle.desk.specs.Asks.{asked_of};
 ghost use Rattle.desk.specs.Says.{LineAsks, LineWrong};
 

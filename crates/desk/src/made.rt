@@ -4,7 +4,7 @@ ghost use Rattle.std.specs.Prelude.{◌≡◌, ◌<◌, ◌^◌, IfOk, MatchResu
 ghost use Rattle.desk.specs.Asks.{made_bytes};
 
 use base::Bytes;
-use records::LineRefusal;
+use site_events::LineRefusal;
 use std::alloc::{AllocError, Global};
 
 /// At most so many bytes are made: one more than the longest file has.

@@ -3,7 +3,7 @@
 ghost use Rattle.std.specs.Prelude.{◌≡◌};
 ghost use Rattle.desk.specs.Texts.{rule_text, cause_text, daemon_text, file_text, state_text, truth_text, flags_text, key_text, vsn_text};
 
-use records::{CommandFile, Daemon, FileState, IdleCause, Rule, Vsn};
+use site_events::{CommandFile, Daemon, FileState, IdleCause, Rule, Vsn};
 
 pub fn rule_text(rule: Rule) -> &'static [u8]
     ensures { result.now ≡ rule_text rule }

@@ -7,7 +7,7 @@ ghost use Rattle.desk.specs.Forms.{is_blank};
 
 use crate::commands::{Command, at, cat, configure, find_command, head, make, put, remove};
 use crate::words::{Words, is_blank};
-use records::{Asked, LineRefusal};
+use site_events::{Asked, LineRefusal};
 use std::alloc::Global;
 
 /// A line has at most so many bytes, its end left out.

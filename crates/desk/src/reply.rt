@@ -7,7 +7,7 @@ use crate::line::{Word, write_line};
 use crate::names::{cause_text, daemon_text, file_text, rule_text, vsn_text};
 use crate::reports::{write_report, write_summary};
 use base::Bytes;
-use records::{CommandFile, Daemon, LineRefusal, Reply, Vsn};
+use site_events::{CommandFile, Daemon, LineRefusal, Reply, Vsn};
 use std::alloc::{AllocError, Global};
 
 #[tactic(auto, unfolding(crate::specs::Texts::ended))]

@@ -3,12 +3,12 @@ use Rattle.std.proofs.Common.{◌≡◌, ℕ, ◌*◌, ◌≤◌, List, length, 
 use Rattle.std.specs.Prelude.{IsTrue}
 use Rattle.std.proofs.lemmas.List.{take_min}
 use Rattle.bank.specs.View.{View, IsSound}
-use Rattle.records.specs.declared.event.Event.TheVariants.{Read as ReadEvent}
-use Rattle.records.specs.declared.file.FileRec.{FileRec}
-use Rattle.records.specs.declared.file.Run.{Run}
-use Rattle.records.specs.declared.reply.Reply.TheVariants.{Bytes}
-use Rattle.records.specs.declared.step.StepKind.TheVariants.{Accessed}
-use Rattle.records.specs.Written.{written}
+use Rattle.site_events.specs.declared.event.Event.TheVariants.{Read as ReadEvent}
+use Rattle.site_types.specs.declared.file.FileRec.{FileRec}
+use Rattle.site_types.specs.declared.file.Run.{Run}
+use Rattle.site_events.specs.declared.reply.Reply.TheVariants.{Bytes}
+use Rattle.site_types.specs.declared.step.StepKind.TheVariants.{Accessed}
+use Rattle.step_codec.specs.Written.{written}
 use Rattle.cache_space.specs.Space.{blocks_in}
 use Rattle.site_history.specs.Site.{bytes_of, file_at}
 use Rattle.site_history.specs.Steps.{HistoryStep}

@@ -4,12 +4,12 @@ use Rattle.std.specs.Prelude.{IsTrue}
 use Rattle.bank.specs.View.{View, IsSound, OnlyRead}
 use Rattle.bank.proofs.Readings.{nothing_read}
 use Rattle.journal.specs.State.{JournalState}
-use Rattle.records.specs.declared.event.Event.TheVariants.{Configure as ConfigureEvent}
-use Rattle.records.specs.declared.file.SiteTexts.{SiteTexts}
-use Rattle.records.specs.declared.reply.Reply.TheVariants.{Done}
-use Rattle.records.specs.declared.step.Step.{Step}
-use Rattle.records.specs.declared.step.StepKind.TheVariants.{Configured}
-use Rattle.records.specs.Written.{written}
+use Rattle.site_events.specs.declared.event.Event.TheVariants.{Configure as ConfigureEvent}
+use Rattle.site_types.specs.declared.file.SiteTexts.{SiteTexts}
+use Rattle.site_events.specs.declared.reply.Reply.TheVariants.{Done}
+use Rattle.site_types.specs.declared.step.Step.{Step}
+use Rattle.site_types.specs.declared.step.StepKind.TheVariants.{Configured}
+use Rattle.step_codec.specs.Written.{written}
 use Rattle.site_history.specs.Site.{Fields}
 use Rattle.site_history.specs.Steps.{HistoryStep, IsLegal}
 use Rattle.site_history.specs.Histories.{after}

@@ -4,7 +4,7 @@ use Rattle.std.specs.Borrow.{Bor}
 use Rattle.std.specs.Option.{option_copied}
 use Rattle.std.specs.Str.{bytes_eq}
 use Rattle.bank.specs.View.{View}
-use Rattle.records.specs.declared.file.FileRec.{FileRec}
+use Rattle.site_types.specs.declared.file.FileRec.{FileRec}
 use Rattle.site_history.specs.Site.{file_at}
 use Rattle.site_history.specs.Steps.{HistoryStep}
 use Rattle.site_history.specs.Histories.{after, journal_length}

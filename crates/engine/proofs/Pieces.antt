@@ -5,7 +5,7 @@ use Rattle.bank.specs.View.{View, IsSound, Unchanged, Touches, OnlyRead}
 use Rattle.bank.proofs.Spans.{Stands-same}
 use Rattle.bank.specs.Inside.{WroteInside}
 use Rattle.bank.proofs.Inside.{inside_nothing, inside_then}
-use Rattle.records.specs.declared.file.Run.{Run}
+use Rattle.site_types.specs.declared.file.Run.{Run}
 use Rattle.cache_space.specs.Space.{blocks_in}
 use Rattle.site_history.specs.Images.{extents_over, AllStand}
 use Rattle.site_history.specs.Pinned.{in_blocks_of}

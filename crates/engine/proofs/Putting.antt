@@ -5,11 +5,11 @@ use Rattle.bank.specs.Content.{Image}
 use Rattle.bank.specs.View.{View, IsImage, IsSound, LeavesOnly}
 use Rattle.bank.specs.Inside.{WroteInside}
 use Rattle.bank.proofs.Moments.{weakened}
-use Rattle.records.specs.declared.event.Event.TheVariants.{Put as PutEvent}
-use Rattle.records.specs.declared.file.Run.{Run}
-use Rattle.records.specs.declared.reply.Reply.TheVariants.{Stored}
-use Rattle.records.specs.declared.step.Step.{Step}
-use Rattle.records.specs.Written.{written}
+use Rattle.site_events.specs.declared.event.Event.TheVariants.{Put as PutEvent}
+use Rattle.site_types.specs.declared.file.Run.{Run}
+use Rattle.site_events.specs.declared.reply.Reply.TheVariants.{Stored}
+use Rattle.site_types.specs.declared.step.Step.{Step}
+use Rattle.step_codec.specs.Written.{written}
 use Rattle.cache_space.specs.Blocks.{blocks_for, free_blocks, lowest_runs}
 use Rattle.site_history.specs.Site.{Fields, file_at, held_runs, cache_blocks}
 use Rattle.site_history.specs.Steps.{HistoryStep, IsLegal, inode_for}

@@ -1,11 +1,11 @@
 -- A removal of a file that is there.
 use Rattle.std.proofs.Common.{◌≡◌, ℕ, List, length, refl, sym, Bool, Some}
 use Rattle.bank.specs.View.{View}
-use Rattle.records.specs.declared.event.Event.TheVariants.{Remove as RemoveEvent}
-use Rattle.records.specs.declared.file.FileRec.{FileRec}
-use Rattle.records.specs.declared.reply.Reply.TheVariants.{Done}
-use Rattle.records.specs.declared.step.StepKind.TheVariants.{Removed}
-use Rattle.records.specs.Written.{written}
+use Rattle.site_events.specs.declared.event.Event.TheVariants.{Remove as RemoveEvent}
+use Rattle.site_types.specs.declared.file.FileRec.{FileRec}
+use Rattle.site_events.specs.declared.reply.Reply.TheVariants.{Done}
+use Rattle.site_types.specs.declared.step.StepKind.TheVariants.{Removed}
+use Rattle.step_codec.specs.Written.{written}
 use Rattle.site_history.specs.Site.{file_at}
 use Rattle.site_history.specs.Steps.{HistoryStep}
 use Rattle.site_history.specs.Histories.{after}

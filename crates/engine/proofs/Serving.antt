@@ -5,9 +5,9 @@ use Rattle.bank.specs.Content.{Image}
 use Rattle.bank.specs.View.{View, IsImage, LeavesOnly}
 use Rattle.bank.proofs.Moments.{weakened, joined}
 use Rattle.journal.specs.State.{JournalState}
-use Rattle.records.specs.declared.event.Event.{Event}
-use Rattle.records.specs.declared.event.Event.TheVariants.{Put as PutEvent}
-use Rattle.records.specs.declared.reply.Reply.{Reply}
+use Rattle.site_events.specs.declared.event.Event.{Event}
+use Rattle.site_events.specs.declared.event.Event.TheVariants.{Put as PutEvent}
+use Rattle.site_events.specs.declared.reply.Reply.{Reply}
 use Rattle.site_history.specs.Site.{Fields}
 use Rattle.site_history.specs.Steps.{HistoryStep}
 use Rattle.site_history.specs.Histories.{after}

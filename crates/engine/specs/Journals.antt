@@ -1,8 +1,8 @@
 -- What a refused reopening tells of the journal.
 use Rattle.std.specs.Prelude.{ℕ}
 use Rattle.bank.specs.Content.{Content}
-use Rattle.records.specs.declared.reply.Reply.{Reply}
-use Rattle.records.specs.declared.reply.Reply.TheVariants.{BadJournal as BadJournalReply}
+use Rattle.site_events.specs.declared.reply.Reply.{Reply}
+use Rattle.site_events.specs.declared.reply.Reply.TheVariants.{BadJournal as BadJournalReply}
 use Rattle.site_history.specs.Journals.{IsBadJournal}
 use Rattle.site_state.specs.declared.replays.ReplayRefusal.{ReplayRefusal}
 use Rattle.site_state.specs.declared.replays.ReplayRefusal.TheVariants.{BadStep, NoMemory as Wanting}

@@ -1,7 +1,7 @@
 -- What stands before a step is recorded.
 use Rattle.std.specs.Prelude.{◌≡◌, ℕ, Bool, true, IsTrue, Some, List}
 use Rattle.bank.specs.View.{View}
-use Rattle.records.specs.Written.{written}
+use Rattle.step_codec.specs.Written.{written}
 use Rattle.site_history.specs.Site.{Fields}
 use Rattle.site_history.specs.Steps.{HistoryStep, IsLegal, HasBytes}
 use Rattle.site_history.specs.Histories.{after}

@@ -2,7 +2,7 @@
 
 ghost use Rattle.std.specs.Prelude.{◌≡◌, ◌+◌, ◌++◌, ◌∷◌, [], ◌≤◌, true, false, Bool, List as Seq, IsTrue, length, OnOk, OnErr};
 ghost use Rattle.base.specs.Causes.{Rose};
-ghost use Rattle.records.specs.Written.{InRange};
+ghost use Rattle.step_codec.specs.Written.{InRange};
 ghost use Rattle.journal.specs.Records.{IsPayload};
 ghost use Rattle.site_history.specs.Steps.{HistoryStep};
 ghost use Rattle.site_history.specs.Worlds.{at};

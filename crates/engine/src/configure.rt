@@ -3,10 +3,10 @@
 ghost use Rattle.std.specs.Prelude.{ℕ, ◌≡◌, ◌≢◌, ◌≤◌, false, Bool, List as Seq, None, Some, option_map, IfOk, IfErr, IfNone, IfSome, OnOk, IsTrue};
 ghost use Rattle.base.specs.Causes.{Rose};
 ghost use Rattle.bank.specs.Content.{Content};
-ghost use Rattle.records.specs.Written.{written, InRange};
-ghost use Rattle.records.specs.declared.event.Event.TheVariants.{Configure as ConfigureEvent};
-ghost use Rattle.records.specs.declared.reply.Reply.TheVariants.{Refused};
-ghost use Rattle.records.specs.declared.step.StepKind.TheVariants.{Configured};
+ghost use Rattle.step_codec.specs.Written.{written, InRange};
+ghost use Rattle.site_events.specs.declared.event.Event.TheVariants.{Configure as ConfigureEvent};
+ghost use Rattle.site_events.specs.declared.reply.Reply.TheVariants.{Refused};
+ghost use Rattle.site_types.specs.declared.step.StepKind.TheVariants.{Configured};
 ghost use Rattle.journal.specs.Records.{IsPayload};
 ghost use Rattle.configuration.specs.Readings.{AreWithin, refusal_of};
 ghost use Rattle.configuration.specs.Says.{TellsRefusal};
@@ -23,7 +23,8 @@ use crate::kept::Engine;
 use crate::payload::write_payload;
 use bank::Bank;
 use configuration::ConfigurationError;
-use records::{Reply, SiteTexts, Step, StepKind};
+use site_types::{SiteTexts, Step, StepKind};
+use site_events::Reply;
 use site_state::{Prepared, Setting};
 use std::alloc::AllocError;
 

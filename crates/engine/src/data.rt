@@ -10,7 +10,7 @@ ghost use Rattle.site_history.specs.Images.{extents_over, AllStand};
 ghost use Rattle.site_history.specs.Pinned.{StandInAll, in_blocks_of};
 
 use bank::{Bank, BankFailed};
-use records::Run;
+use site_types::Run;
 
 /// The bytes of a block of the cache.
 const BLOCK: u64 = 4096;

@@ -17,7 +17,7 @@ use crate::kept::Engine;
 use crate::reopen::read_site;
 use bank::Bank;
 use configuration::Configuration;
-use records::{Event, LineRefusal, Reply};
+use site_events::{Event, LineRefusal, Reply};
 use std::alloc::Global;
 
 /// The last moment, in seconds.

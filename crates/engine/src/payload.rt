@@ -1,11 +1,12 @@
 //! A step's written form.
 
 ghost use Rattle.std.specs.Prelude.{◌≡◌, ◌≤◌, OnOk};
-ghost use Rattle.records.specs.Lengths.{step_length};
-ghost use Rattle.records.specs.Written.{written, InRange};
+ghost use Rattle.step_codec.specs.Lengths.{step_length};
+ghost use Rattle.step_codec.specs.Written.{written, InRange};
 ghost use Rattle.journal.specs.Records.{IsPayload};
 
-use records::{Step, encode_step};
+use site_types::Step;
+use step_codec::encode_step;
 use std::alloc::AllocError;
 
 /// Puts a step's written form in the place of what the buffer has.

@@ -3,9 +3,9 @@
 ghost use Rattle.std.specs.Prelude.{◌≡◌, ◌≢◌, ◌+◌, ◌<◌, ◌≤◌, ◌^◌, ◌++◌, [], ◌∷◌, ℕ, Bool, List as Seq, IsTrue, false, length, IfOk, OnOk};
 ghost use Rattle.base.specs.Causes.{Rose};
 ghost use Rattle.base.specs.Paths.{is_legal_path, is_legal_name};
-ghost use Rattle.records.specs.Ranges.{IsInode};
-ghost use Rattle.records.specs.Written.{written, InRange};
-ghost use Rattle.records.specs.declared.event.Event.TheVariants.{Put as PutEvent};
+ghost use Rattle.site_types.specs.Ranges.{IsInode};
+ghost use Rattle.step_codec.specs.Written.{written, InRange};
+ghost use Rattle.site_events.specs.declared.event.Event.TheVariants.{Put as PutEvent};
 ghost use Rattle.journal.specs.Records.{IsPayload};
 ghost use Rattle.cache_space.specs.Blocks.{blocks_for, free_blocks, lowest_runs};
 ghost use Rattle.cache_space.specs.Space.{AreMaximal};
@@ -26,7 +26,8 @@ use crate::kept::Engine;
 use crate::payload::write_payload;
 use bank::Bank;
 use base::Bytes;
-use records::{Reply, Run, Step, StepKind};
+use site_types::{Run, Step, StepKind};
+use site_events::Reply;
 use site_state::{Place, Prepared};
 use std::alloc::AllocError;
 

@@ -2,7 +2,7 @@
 
 ghost use Rattle.std.specs.Prelude.{ℕ, ◌≡◌, ◌≢◌, ◌≤◌, false, Bool, List as Seq, IsTrue};
 ghost use Rattle.base.specs.Causes.{Rose};
-ghost use Rattle.records.specs.declared.event.Event.TheVariants.{Read as ReadEvent};
+ghost use Rattle.site_events.specs.declared.event.Event.TheVariants.{Read as ReadEvent};
 ghost use Rattle.site_history.specs.Steps.{HistoryStep};
 ghost use Rattle.site_history.specs.Worlds.{World, at, Turn};
 ghost use Rattle.bank.specs.Content.{Content};
@@ -14,7 +14,8 @@ use crate::kept::Engine;
 use crate::payload::write_payload;
 use bank::Bank;
 use base::Bytes;
-use records::{Reply, Rule, Step, StepKind};
+use site_types::{Step, StepKind};
+use site_events::{Reply, Rule};
 use site_state::Prepared;
 
 impl<B: Bank, P: Drop> Engine<B, P> {

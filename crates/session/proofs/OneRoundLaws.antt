@@ -4,7 +4,7 @@ use Rattle.base.specs.Causes.{AreCounted}
 use Rattle.outside.specs.declared.folder.NamedText.{NamedText}
 use Rattle.bank.specs.Content.{Image}
 use Rattle.bank.specs.View.{View, IsSound}
-use Rattle.records.specs.declared.reply.Reply.{Reply}
+use Rattle.site_events.specs.declared.reply.Reply.{Reply}
 use Rattle.site_history.specs.Worlds.{World}
 use Rattle.site_history.specs.Images.{ReadsAs}
 use Rattle.engine.specs.declared.kept.Engine.{Engine}

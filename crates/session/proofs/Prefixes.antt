@@ -5,11 +5,11 @@ use Rattle.std.proofs.Math.Seq.{take-append_seam}
 use Rattle.outside.specs.declared.folder.NamedText.{NamedText}
 use Rattle.bank.specs.Content.{Image}
 use Rattle.bank.specs.View.{View}
-use Rattle.records.specs.declared.event.Asked.{Asked}
-use Rattle.records.specs.declared.event.Asked.TheVariants.{One, At as AskedAt, Configure}
-use Rattle.records.specs.declared.event.Event.{Event}
-use Rattle.records.specs.declared.event.Event.TheVariants.{Configure as ConfigureEvent}
-use Rattle.records.specs.declared.reply.Reply.{Reply}
+use Rattle.site_events.specs.declared.event.Asked.{Asked}
+use Rattle.site_events.specs.declared.event.Asked.TheVariants.{One, At as AskedAt, Configure}
+use Rattle.site_events.specs.declared.event.Event.{Event}
+use Rattle.site_events.specs.declared.event.Event.TheVariants.{Configure as ConfigureEvent}
+use Rattle.site_events.specs.declared.reply.Reply.{Reply}
 use Rattle.site_history.specs.Steps.{HistoryStep}
 use Rattle.site_history.specs.Answers.{Answer}
 use Rattle.site_history.specs.Worlds.{World, with_step, answer_in, moment_of, clock_from, TurnBy, Course, Goes, Stays, Owes, course_of, EventTurnBy}

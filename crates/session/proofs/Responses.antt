@@ -5,15 +5,15 @@ use Rattle.base.specs.Causes.{Rose, AreCounted}
 use Rattle.outside.specs.declared.folder.NamedText.{NamedText}
 use Rattle.bank.specs.View.{View, IsSound}
 use Rattle.bank.proofs.Moments.{started}
-use Rattle.records.specs.declared.event.Asked.{Asked}
-use Rattle.records.specs.declared.event.Asked.TheVariants.{One, At as AskedAt, Configure}
-use Rattle.records.specs.declared.event.Event.{Event}
-use Rattle.records.specs.declared.event.Event.TheVariants.{Configure as ConfigureEvent}
-use Rattle.records.specs.declared.file.SiteTexts.{SiteTexts}
-use Rattle.records.specs.declared.reply.LineRefusal.{LineRefusal}
-use Rattle.records.specs.declared.reply.LineRefusal.TheVariants.{NotACommand, BadWord, LineTooLong, NoMemory as WantOfMemory}
-use Rattle.records.specs.declared.reply.Reply.{Reply}
-use Rattle.records.specs.declared.reply.Reply.TheVariants.{Line, At, BankFault, FolderFault, NoMemory}
+use Rattle.site_events.specs.declared.event.Asked.{Asked}
+use Rattle.site_events.specs.declared.event.Asked.TheVariants.{One, At as AskedAt, Configure}
+use Rattle.site_events.specs.declared.event.Event.{Event}
+use Rattle.site_events.specs.declared.event.Event.TheVariants.{Configure as ConfigureEvent}
+use Rattle.site_types.specs.declared.file.SiteTexts.{SiteTexts}
+use Rattle.site_events.specs.declared.reply.LineRefusal.{LineRefusal}
+use Rattle.site_events.specs.declared.reply.LineRefusal.TheVariants.{NotACommand, BadWord, LineTooLong, NoMemory as WantOfMemory}
+use Rattle.site_events.specs.declared.reply.Reply.{Reply}
+use Rattle.site_events.specs.declared.reply.Reply.TheVariants.{Line, At, BankFault, FolderFault, NoMemory}
 use Rattle.configuration.specs.FolderTexts.{AreRead}
 use Rattle.site_history.specs.Worlds.{World, EventTurn}
 use Rattle.site_history.specs.Images.{ReadsAs}

@@ -9,8 +9,8 @@ use Rattle.base.specs.Causes.{Rose, AreCounted}
 use Rattle.outside.specs.declared.folder.NamedText.{NamedText}
 use Rattle.bank.specs.Content.{Content}
 use Rattle.bank.specs.View.{View}
-use Rattle.records.specs.declared.reply.Reply.{Reply}
-use Rattle.records.specs.declared.reply.Reply.TheVariants.{BadJournal}
+use Rattle.site_events.specs.declared.reply.Reply.{Reply}
+use Rattle.site_events.specs.declared.reply.Reply.TheVariants.{BadJournal}
 use Rattle.site_history.specs.Steps.{HistoryStep}
 use Rattle.site_history.specs.Worlds.{World}
 use Rattle.site_history.specs.Images.{IsSettled}

@@ -1,10 +1,10 @@
 -- What the lines of an input ask.
 use Rattle.std.specs.Prelude.{if◌then◌else◌, Result, Err, List, [], ◌∷◌, flat_map}
-use Rattle.records.specs.declared.event.Asked.{Asked}
-use Rattle.records.specs.declared.reply.LineRefusal.{LineRefusal}
-use Rattle.records.specs.declared.reply.LineRefusal.TheVariants.{NotACommand, BadWord, LineTooLong, NoMemory as WantOfMemory}
-use Rattle.records.specs.declared.reply.Reply.{Reply}
-use Rattle.records.specs.declared.reply.Reply.TheVariants.{Line, NoMemory}
+use Rattle.site_events.specs.declared.event.Asked.{Asked}
+use Rattle.site_events.specs.declared.reply.LineRefusal.{LineRefusal}
+use Rattle.site_events.specs.declared.reply.LineRefusal.TheVariants.{NotACommand, BadWord, LineTooLong, NoMemory as WantOfMemory}
+use Rattle.site_events.specs.declared.reply.Reply.{Reply}
+use Rattle.site_events.specs.declared.reply.Reply.TheVariants.{Line, NoMemory}
 use Rattle.desk.specs.Asks.{is_skipped, asked_of}
 use Rattle.input.specs.Lines.{RawLine, Kept, Long, raw_lines}
 use Rattle.input.specs.Reading.{Items}

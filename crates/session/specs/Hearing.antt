@@ -1,9 +1,9 @@
 -- What a call that reads the next line of an input hears.
 use Rattle.std.specs.Prelude.{◌≡◌, ◌⊎◌, ◌<◌, ℕ, List, [], ◌∷◌, ◌++◌, length, Option, Bool, true, false, Result, Err}
 use Rattle.base.specs.Causes.{Rose}
-use Rattle.records.specs.declared.event.Asked.{Asked}
-use Rattle.records.specs.declared.reply.LineRefusal.{LineRefusal}
-use Rattle.records.specs.declared.reply.LineRefusal.TheVariants.{NoMemory as WantOfMemory}
+use Rattle.site_events.specs.declared.event.Asked.{Asked}
+use Rattle.site_events.specs.declared.reply.LineRefusal.{LineRefusal}
+use Rattle.site_events.specs.declared.reply.LineRefusal.TheVariants.{NoMemory as WantOfMemory}
 use Rattle.input.specs.Reading.{Reading, Items, Moved, MeetsEnd, StopsAtFault, StopsOverBudget}
 use Rattle.session.specs.Asking.{Request}
 use Rattle.session.specs.declared.kept.Ending.{Ending}

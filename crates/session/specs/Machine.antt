@@ -1,16 +1,16 @@
 -- What is answered where nothing fails: a function of what is asked.
 use Rattle.std.specs.Prelude.{◌≡◌, ℕ, max, List, [], ◌∷◌, flat_map, Bool, Option, Some, None, Ok, Err}
 use Rattle.outside.specs.declared.folder.NamedText.{NamedText}
-use Rattle.records.specs.declared.event.Asked.TheVariants.{One, At as AskedAt, Configure}
-use Rattle.records.specs.declared.event.Event.{Event}
-use Rattle.records.specs.declared.event.Event.TheVariants.{Configure as ConfigureEvent}
-use Rattle.records.specs.declared.file.SiteTexts.{SiteTexts}
-use Rattle.records.specs.declared.reply.LineRefusal.TheVariants.{NotACommand}
-use Rattle.records.specs.declared.reply.Reply.{Reply}
-use Rattle.records.specs.declared.reply.Reply.TheVariants.{Line, At}
+use Rattle.site_events.specs.declared.event.Asked.TheVariants.{One, At as AskedAt, Configure}
+use Rattle.site_events.specs.declared.event.Event.{Event}
+use Rattle.site_events.specs.declared.event.Event.TheVariants.{Configure as ConfigureEvent}
+use Rattle.site_types.specs.declared.file.SiteTexts.{SiteTexts}
+use Rattle.site_events.specs.declared.reply.LineRefusal.TheVariants.{NotACommand}
+use Rattle.site_events.specs.declared.reply.Reply.{Reply}
+use Rattle.site_events.specs.declared.reply.Reply.TheVariants.{Line, At}
 use Rattle.desk.specs.Texts.{text_of}
 use Rattle.configuration.specs.FolderTexts.{texts_in}
-use Rattle.records.specs.Texts.{no_texts}
+use Rattle.site_types.specs.Texts.{no_texts}
 use Rattle.site_history.specs.Answers.{Answer}
 use Rattle.site_history.specs.Worlds.{World, at, moment_of, answer_in, with_step, IsReply}
 use Rattle.session.specs.Asking.{Request}

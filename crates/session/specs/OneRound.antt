@@ -5,7 +5,7 @@ use Rattle.base.specs.Causes.{Rose, AreCounted}
 use Rattle.outside.specs.declared.folder.NamedText.{NamedText}
 use Rattle.bank.specs.Content.{Image}
 use Rattle.bank.specs.View.{View, LeavesOnly}
-use Rattle.records.specs.declared.reply.Reply.{Reply}
+use Rattle.site_events.specs.declared.reply.Reply.{Reply}
 use Rattle.desk.specs.Texts.{text_of}
 use Rattle.site_history.specs.Worlds.{World}
 use Rattle.site_history.specs.Images.{ReadsAs}

@@ -5,7 +5,7 @@ use Rattle.std.specs.Io.KnownBytes.{Appends, IsAtEnd}
 use Rattle.base.specs.Causes.{Rose}
 use Rattle.bank.specs.Content.{Content}
 use Rattle.bank.specs.View.{View}
-use Rattle.records.specs.declared.reply.Reply.TheVariants.{BadJournal}
+use Rattle.site_events.specs.declared.reply.Reply.TheVariants.{BadJournal}
 use Rattle.desk.specs.Texts.{text_of}
 use Rattle.site_history.specs.Steps.{HistoryStep}
 use Rattle.site_history.specs.Worlds.{new_world, IsFound}

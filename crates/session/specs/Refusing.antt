@@ -2,7 +2,7 @@
 use Rattle.std.specs.Prelude.{◌≡◌, ◌⊎◌, ℕ, List, [], ◌++◌, Option}
 use Rattle.std.specs.Io.KnownBytes.{Appends}
 use Rattle.base.specs.Causes.{Rose}
-use Rattle.records.specs.declared.reply.Reply.{Reply}
+use Rattle.site_events.specs.declared.reply.Reply.{Reply}
 use Rattle.desk.specs.Texts.{text_of}
 use Rattle.engine.specs.declared.engine.ShutCause.{ShutCause}
 use Rattle.engine.specs.declared.engine.ShutCause.TheVariants.{BankFault, BadJournal, NoMemory}

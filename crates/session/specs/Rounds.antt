@@ -1,13 +1,13 @@
 -- Rounds: what was asked, what was answered, and what followed from it.
 use Rattle.std.specs.Prelude.{◌≡◌, ◌⊎◌, ◌+◌, ◌≤◌, ℕ, max, List, [], ◌∷◌, length, map, flat_map, Bool, ◌&&◌, true, false, cond, nat_eq, Option, Some, None, Ok, Err}
 use Rattle.outside.specs.declared.folder.NamedText.{NamedText}
-use Rattle.records.specs.declared.event.Asked.TheVariants.{One, At as AskedAt, Configure}
-use Rattle.records.specs.declared.event.Event.{Event}
-use Rattle.records.specs.declared.event.Event.TheVariants.{Configure as ConfigureEvent}
-use Rattle.records.specs.declared.file.SiteTexts.{SiteTexts}
-use Rattle.records.specs.declared.reply.LineRefusal.TheVariants.{NotACommand}
-use Rattle.records.specs.declared.reply.Reply.{Reply}
-use Rattle.records.specs.declared.reply.Reply.TheVariants.{Line, At, BankFault, FolderFault, BadJournal, NoMemory}
+use Rattle.site_events.specs.declared.event.Asked.TheVariants.{One, At as AskedAt, Configure}
+use Rattle.site_events.specs.declared.event.Event.{Event}
+use Rattle.site_events.specs.declared.event.Event.TheVariants.{Configure as ConfigureEvent}
+use Rattle.site_types.specs.declared.file.SiteTexts.{SiteTexts}
+use Rattle.site_events.specs.declared.reply.LineRefusal.TheVariants.{NotACommand}
+use Rattle.site_events.specs.declared.reply.Reply.{Reply}
+use Rattle.site_events.specs.declared.reply.Reply.TheVariants.{Line, At, BankFault, FolderFault, BadJournal, NoMemory}
 use Rattle.desk.specs.Texts.{text_of}
 use Rattle.configuration.specs.FolderTexts.{AreRead}
 use Rattle.site_history.specs.Worlds.{World, EventTurn}

@@ -8,7 +8,7 @@ use crate::kept::Ending;
 use desk::{is_skipped, read_line};
 use input::{LineRead, Reader, next_line};
 use outside::Source;
-use records::{Asked, LineRefusal};
+use site_events::{Asked, LineRefusal};
 use std::alloc::Global;
 
 /// What a line was read as, or why none was read.

@@ -15,7 +15,7 @@ use configuration::read_texts;
 use desk::write_reply;
 use engine::Engine;
 use outside::{Folder, FolderFault, Sink, write_all};
-use records::{Asked, Event, LineRefusal, Reply};
+use site_events::{Asked, Event, LineRefusal, Reply};
 use std::alloc::Global;
 
 /// The status that an answer is a cause of, or 0.

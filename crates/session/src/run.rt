@@ -21,7 +21,7 @@ use desk::write_reply;
 use engine::{Engine, Shut, ShutCause};
 use input::Reader;
 use outside::{Clock, Folder, Patterns, Sink, Source, write_all};
-use records::Reply;
+use site_events::Reply;
 use std::alloc::Global;
 
 /// The size of the journal's area, in bytes.

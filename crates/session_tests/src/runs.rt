@@ -4,7 +4,7 @@ use crate::texts::folder_of;
 use bank::MemoryBank;
 use base::{Bytes, List};
 use outside::{LiteralPatterns, MemoryClock, MemorySink, MemorySource};
-use records::SiteTexts;
+use site_types::SiteTexts;
 use session::run_lines;
 use std::alloc::Global;
 use std::process::Abort;

@@ -2,7 +2,8 @@
 
 use base::{Bytes, List};
 use outside::{MemoryFolder, NamedText};
-use records::{CommandFile, SiteTexts};
+use site_types::SiteTexts;
+use site_events::CommandFile;
 use std::alloc::{AllocError, Global};
 
 /// The texts of these files. The others are empty.

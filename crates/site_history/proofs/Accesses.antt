@@ -2,8 +2,8 @@
 -- `read_length` how many bytes a read answers.
 use Rattle.std.proofs.Common.{◌≡◌, ℕ, ◌≤◌, ◌<◌, ◌^◌, length, take, min, refl, arith}
 use Rattle.std.proofs.lemmas.List.{length-take}
-use Rattle.records.specs.declared.file.FileRec.{FileRec}
-use Rattle.records.specs.declared.step.StepKind.TheVariants.{Accessed, Removed}
+use Rattle.site_types.specs.declared.file.FileRec.{FileRec}
+use Rattle.site_types.specs.declared.step.StepKind.TheVariants.{Accessed, Removed}
 use Rattle.site_history.specs.Site.{Site, bytes_of}
 use Rattle.site_history.specs.Steps.{IsLegal, HasBytes}
 use Rattle.site_history.specs.Answers.{bare_step}

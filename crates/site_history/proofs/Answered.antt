@@ -1,11 +1,11 @@
 -- Each step that is answered may come: `answered`. It is of the answer's moment, and has the bytes that it says.
 use Rattle.std.proofs.Common.{◌≡◌, ℕ, ◌≤◌, ◌<◌, ◌^◌, List, length, refl, Option, Some, None}
-use Rattle.records.specs.declared.event.Event.{Event}
-use Rattle.records.specs.declared.event.Event.TheVariants.{Put as PutEvent, Read as ReadEvent, Remove as RemoveEvent, Configure as ConfigureEvent}
-use Rattle.records.specs.declared.file.FileRec.{FileRec}
-use Rattle.records.specs.declared.file.SiteTexts.{SiteTexts}
-use Rattle.records.specs.declared.reply.Reply.{Reply}
-use Rattle.records.specs.declared.reply.Rule.{Rule}
+use Rattle.site_events.specs.declared.event.Event.{Event}
+use Rattle.site_events.specs.declared.event.Event.TheVariants.{Put as PutEvent, Read as ReadEvent, Remove as RemoveEvent, Configure as ConfigureEvent}
+use Rattle.site_types.specs.declared.file.FileRec.{FileRec}
+use Rattle.site_types.specs.declared.file.SiteTexts.{SiteTexts}
+use Rattle.site_events.specs.declared.reply.Reply.{Reply}
+use Rattle.site_events.specs.declared.reply.Rule.{Rule}
 use Rattle.site_history.specs.Site.{Site, file_at}
 use Rattle.site_history.specs.Steps.{HistoryStep, IsLegal, HasBytes}
 use Rattle.site_history.specs.Answers.{put_rule, put_answer_by, read_answer_of, remove_answer_of, configure_refusal, configure_answer_by, answer_to}

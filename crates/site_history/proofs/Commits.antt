@@ -5,7 +5,7 @@ use Rattle.bank.specs.View.{View, IsImage, IsSound, LeavesOnly, Wrote}
 use Rattle.bank.proofs.Moments.{weakened, joined}
 use Rattle.journal.specs.Records.{HoldsRecords, AllHold, IsBeforeOrAfter}
 use Rattle.journal.proofs.Held.{now_has}
-use Rattle.records.specs.Written.{written}
+use Rattle.step_codec.specs.Written.{written}
 use Rattle.site_history.specs.Site.{Site}
 use Rattle.site_history.specs.Steps.{HistoryStep, effect, IsLegal, HasBytes}
 use Rattle.site_history.specs.Histories.{after, IsHistory}

@@ -2,9 +2,9 @@
 use Rattle.std.proofs.Common.{◌≡◌, ◌≢◌, inl, inr, ℕ, Bool, true, false, not, cond, ◌==◌, List, [], ◌∷◌, map, refl, sym, ◌∙◌, subst}
 use Rattle.std.specs.List.{AllByRecursion}
 use Rattle.std.proofs.lemmas.Bool.{cases_eq, eq-eqb, ne_eqb}
-use Rattle.records.specs.declared.file.FileRec.{FileRec}
-use Rattle.records.specs.declared.step.StepKind.{StepKind}
-use Rattle.records.specs.declared.step.StepKind.TheVariants.{Put, Accessed, Removed}
+use Rattle.site_types.specs.declared.file.FileRec.{FileRec}
+use Rattle.site_types.specs.declared.step.StepKind.{StepKind}
+use Rattle.site_types.specs.declared.step.StepKind.TheVariants.{Put, Accessed, Removed}
 use Rattle.site_history.specs.Site.{Fields, Site, file_at, with_file}
 use Rattle.site_history.specs.Steps.{HistoryStep, stored_file, accessed_by, without_file, fields_after}
 use Rattle.site_history.specs.Histories.{after, IsHistory}

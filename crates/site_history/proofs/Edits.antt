@@ -6,8 +6,8 @@
 use Rattle.std.proofs.Common.{◌≡◌, ℕ, ◌+◌, ◌<◌, List, [], ◌∷◌, ◌++◌, length, get_or, set, refl, sym, ◌∙◌, ap, subst, Bool, Option, Some, None}
 use Rattle.std.specs.Option.{option_map_or}
 use Rattle.std.specs.List.{remove}
-use Rattle.records.specs.declared.file.FileRec.{FileRec}
-use Rattle.records.specs.declared.file.SiteTexts.{SiteTexts}
+use Rattle.site_types.specs.declared.file.FileRec.{FileRec}
+use Rattle.site_types.specs.declared.file.SiteTexts.{SiteTexts}
 use Rattle.configuration.specs.Readings.{blocks_of}
 use Rattle.cache_space.specs.Space.{taken_by, AreApart}
 use Rattle.site_history.specs.Site.{Fields, Site, file_at, held_runs, with_file, cache_blocks}

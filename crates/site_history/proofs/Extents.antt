@@ -6,8 +6,8 @@ use Rattle.std.proofs.lemmas.Bool.{both_ways, or_left, false_from_ne_true}
 use Rattle.bank.specs.Content.{Content, Image, Stands}
 use Rattle.bank.specs.View.{View, OnlyContent}
 use Rattle.bank.proofs.Spans.{Stands-same}
-use Rattle.records.specs.declared.file.FileRec.{FileRec}
-use Rattle.records.specs.declared.file.Run.{Run}
+use Rattle.site_types.specs.declared.file.FileRec.{FileRec}
+use Rattle.site_types.specs.declared.file.Run.{Run}
 use Rattle.cache_space.specs.Blocks.{is_in_run, is_in_runs}
 use Rattle.cache_space.specs.Space.{AreApart}
 use Rattle.cache_space.proofs.HeldBlocks.{AreApart-from_append_right}

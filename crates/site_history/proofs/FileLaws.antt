@@ -5,7 +5,7 @@ use Rattle.std.proofs.Common.{◌≡◌, ℕ, ◌+◌, ◌<◌, ◌≤◌, zero,
 use Rattle.std.specs.Prelude.{◌==◌}
 use Rattle.std.specs.List.{AllByRecursion, remove}
 use Rattle.std.proofs.lemmas.Bool.{eq-eqb, ne_eqb, eqb-false}
-use Rattle.records.specs.declared.file.FileRec.{FileRec}
+use Rattle.site_types.specs.declared.file.FileRec.{FileRec}
 use Rattle.site_history.specs.Site.{with_file}
 use Rattle.site_history.specs.Steps.{accessed_by, without_file}
 

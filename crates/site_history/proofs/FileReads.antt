@@ -8,8 +8,8 @@ use Rattle.std.proofs.lemmas.List.Sums.{sum_by-append}
 use Rattle.bank.specs.Content.{Content, Image, Stands}
 use Rattle.bank.specs.View.{View, IsSound}
 use Rattle.bank.proofs.Spans.{Stands-front, Stands-only}
-use Rattle.records.specs.declared.file.FileRec.{FileRec}
-use Rattle.records.specs.declared.file.Run.{Run}
+use Rattle.site_types.specs.declared.file.FileRec.{FileRec}
+use Rattle.site_types.specs.declared.file.Run.{Run}
 use Rattle.cache_space.specs.Space.{blocks_in}
 use Rattle.site_history.specs.Site.{FileBytes, bytes_of}
 use Rattle.site_history.specs.Steps.{HistoryStep}

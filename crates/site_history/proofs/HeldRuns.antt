@@ -8,8 +8,8 @@ use Rattle.std.specs.Prelude.{◌==◌}
 use Rattle.std.specs.List.{remove}
 use Rattle.std.proofs.lemmas.List.{append-nil}
 use Rattle.std.proofs.lemmas.List.Concat.{flat_map-append}
-use Rattle.records.specs.declared.file.FileRec.{FileRec}
-use Rattle.records.specs.declared.file.Run.{Run}
+use Rattle.site_types.specs.declared.file.FileRec.{FileRec}
+use Rattle.site_types.specs.declared.file.Run.{Run}
 use Rattle.cache_space.specs.Space.{taken_by, AreThere, AreApart, AreDisjoint}
 use Rattle.cache_space.proofs.HeldBlocks.{AreApart-sym, AreApart-from_append_right, AreThere-append, AreThere-from_append, AreDisjoint-append, AreDisjoint-from_append, taken_by-moved}
 use Rattle.cache_space.proofs.ChangedBlocks.{taken_by-replaced, AreDisjoint-removed, AreApart-removed, AreThere-removed, AreDisjoint-replaced, AreApart-replaced, AreThere-replaced}

@@ -1,7 +1,7 @@
 -- A history and one step more. `after-push`, `history-push`, `journal_length-push` and `length-push` serve each exit that
 -- acknowledges a step; `history-keeps` and `history-counts` carry what each legal step keeps over a history.
 use Rattle.std.proofs.Common.{◌≡◌, ℕ, ◌+◌, ◌*◌, ◌≤◌, List, [], ◌∷◌, ◌++◌, length, refl, subst, arith, length-append}
-use Rattle.records.specs.Written.{written}
+use Rattle.step_codec.specs.Written.{written}
 use Rattle.site_history.specs.Site.{Site, first_site}
 use Rattle.site_history.specs.Steps.{HistoryStep, effect, IsLegal, HasBytes}
 use Rattle.site_history.specs.Histories.{after_from, after, IsHistoryFrom, IsHistory, journal_length}

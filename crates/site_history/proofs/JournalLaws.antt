@@ -4,9 +4,9 @@ use Rattle.std.proofs.lemmas.List.{length-map}
 use Rattle.bank.specs.Content.{Content, Same}
 use Rattle.journal.specs.Records.{IsRecord, AreRecords, end_of, IsEnd, IsBadAt}
 use Rattle.journal.proofs.RecordLaws.{before-same, holds-same, one_record, no_record, not_bad_record, one_list, bad-same}
-use Rattle.records.specs.declared.step.Step.{Step}
-use Rattle.records.specs.Written.{written, InRange}
-use Rattle.records.proofs.Steps.{one_form}
+use Rattle.site_types.specs.declared.step.Step.{Step}
+use Rattle.step_codec.specs.Written.{written, InRange}
+use Rattle.step_codec.proofs.Steps.{one_form}
 use Rattle.site_history.specs.Site.{Fields, Site, first_site}
 use Rattle.site_history.specs.Steps.{HistoryStep, fields_after, effect, IsLegal}
 use Rattle.site_history.specs.Histories.{after_from, after, IsHistoryFrom, IsHistory, journal_length}

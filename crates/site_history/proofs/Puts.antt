@@ -4,10 +4,10 @@ use Rattle.std.proofs.Common.{◌≡◌, ℕ, ◌<◌, ◌≤◌, ◌^◌, List,
 use Rattle.std.specs.Prelude.{is_none, ◌&&◌, ◌||◌, not, nat_le, nat_lt, MatchOption, IsTrue}
 use Rattle.std.specs.Option.{option_map_or}
 use Rattle.std.proofs.lemmas.Bool.Decides.{nat_tests}
-use Rattle.records.specs.declared.file.FileRec.{FileRec}
-use Rattle.records.specs.declared.reply.Rule.TheVariants.{BadPath, BadAttribute, TooLarge, TooMany, NoSpace}
+use Rattle.site_types.specs.declared.file.FileRec.{FileRec}
+use Rattle.site_events.specs.declared.reply.Rule.TheVariants.{BadPath, BadAttribute, TooLarge, TooMany, NoSpace}
 use Rattle.base.specs.Paths.{is_legal_path, is_legal_name}
-use Rattle.records.specs.Ranges.{IsInode}
+use Rattle.site_types.specs.Ranges.{IsInode}
 use Rattle.cache_space.specs.Blocks.{blocks_for, free_blocks, lowest_runs}
 use Rattle.cache_space.proofs.LowestRuns.{lowest_runs-maximal, lowest_runs-free, blocks_in-lowest_runs, lowest_runs-there}
 use Rattle.site_history.specs.Site.{Fields, Site, file_at, held_runs, cache_blocks}

@@ -6,7 +6,7 @@ use Rattle.bank.specs.View.{View, IsImage, IsSound, OnlyContent, OnlyRead, Leave
 use Rattle.bank.proofs.Moments.{weakened}
 use Rattle.journal.specs.Records.{HoldsRecords}
 use Rattle.journal.proofs.RecordLaws.{holds-same, one_list}
-use Rattle.records.specs.Written.{written}
+use Rattle.step_codec.specs.Written.{written}
 use Rattle.site_history.specs.Steps.{HistoryStep}
 use Rattle.site_history.specs.Histories.{after, IsHistory}
 use Rattle.site_history.specs.Worlds.{World, IsReopened}

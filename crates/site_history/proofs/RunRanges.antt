@@ -6,8 +6,8 @@ use Rattle.std.specs.List.{All, AllByRecursion}
 use Rattle.std.proofs.lemmas.Bool.Decides.{nat_tests}
 use Rattle.std.proofs.lemmas.List.Elements.{All-head, All-tail}
 use Rattle.std.proofs.lemmas.List.Sums.{sum_by-cons}
-use Rattle.records.specs.Ranges.{IsRun}
-use Rattle.records.specs.declared.file.Run.{Run}
+use Rattle.site_types.specs.Ranges.{IsRun}
+use Rattle.site_types.specs.declared.file.Run.{Run}
 use Rattle.cache_space.specs.Blocks.{is_in_run, is_in_runs, free_blocks, put_before, as_runs, lowest_runs}
 use Rattle.cache_space.specs.Space.{taken_by, AreMaximalFrom, AreMaximal, AreThere, blocks_in}
 use Rattle.cache_space.proofs.TakenBlocks.{taken_by_from}

@@ -8,16 +8,16 @@ use Rattle.std.specs.List.{AllByRecursion, remove}
 use Rattle.std.proofs.lemmas.List.{length-set, length-map}
 use Rattle.std.proofs.lemmas.Bool.{eqb-true}
 use Rattle.std.proofs.lemmas.Slice.Eq.{bytes_eq-Decides}
-use Rattle.records.specs.declared.file.FileRec.{FileRec}
-use Rattle.records.specs.declared.file.Run.{Run}
-use Rattle.records.specs.declared.file.SiteTexts.{SiteTexts}
-use Rattle.records.specs.declared.step.StepKind.{StepKind}
-use Rattle.records.specs.declared.step.StepKind.TheVariants.{Configured, Put, Accessed, Removed}
+use Rattle.site_types.specs.declared.file.FileRec.{FileRec}
+use Rattle.site_types.specs.declared.file.Run.{Run}
+use Rattle.site_types.specs.declared.file.SiteTexts.{SiteTexts}
+use Rattle.site_types.specs.declared.step.StepKind.{StepKind}
+use Rattle.site_types.specs.declared.step.StepKind.TheVariants.{Configured, Put, Accessed, Removed}
 use Rattle.base.specs.Paths.{is_legal_path, is_legal_name}
-use Rattle.records.specs.Ranges.{IsInode}
-use Rattle.records.proofs.InRange.{ranges}
+use Rattle.site_types.specs.Ranges.{IsInode}
+use Rattle.step_codec.proofs.InRange.{ranges}
 use Rattle.configuration.specs.Readings.{blocks_of}
-use Rattle.records.specs.Texts.{no_texts}
+use Rattle.site_types.specs.Texts.{no_texts}
 use Rattle.configuration.proofs.Laws.{blocks-range}
 use Rattle.cache_space.specs.Blocks.{blocks_for}
 use Rattle.cache_space.specs.Space.{AreThere, AreDisjoint, AreMaximal, blocks_in}

@@ -7,15 +7,15 @@ use Rattle.std.specs.Prelude.{IsTrue}
 use Rattle.std.specs.List.{AllByRecursion}
 use Rattle.std.proofs.lemmas.Bool.Decides.{nat_tests}
 use Rattle.base.specs.Paths.{is_legal_path, is_legal_name}
-use Rattle.records.specs.declared.file.SiteTexts.{SiteTexts}
-use Rattle.records.specs.Lengths.{step_length}
-use Rattle.records.specs.Ranges.{IsRun, IsInode}
-use Rattle.records.specs.Written.{written, InRange}
-use Rattle.records.proofs.Lengths.{length-written, written_some}
-use Rattle.records.proofs.InRange.{in_range}
-use Rattle.records.specs.declared.step.Step.{Step}
-use Rattle.records.specs.declared.step.StepKind.{StepKind}
-use Rattle.records.specs.declared.step.StepKind.TheVariants.{Configured, Put, Accessed, Removed}
+use Rattle.site_types.specs.declared.file.SiteTexts.{SiteTexts}
+use Rattle.step_codec.specs.Lengths.{step_length}
+use Rattle.site_types.specs.Ranges.{IsRun, IsInode}
+use Rattle.step_codec.specs.Written.{written, InRange}
+use Rattle.step_codec.proofs.Lengths.{length-written, written_some}
+use Rattle.step_codec.proofs.InRange.{in_range}
+use Rattle.site_types.specs.declared.step.Step.{Step}
+use Rattle.site_types.specs.declared.step.StepKind.{StepKind}
+use Rattle.site_types.specs.declared.step.StepKind.TheVariants.{Configured, Put, Accessed, Removed}
 use Rattle.configuration.specs.Readings.{AreWithin}
 use Rattle.cache_space.specs.Blocks.{blocks_for}
 use Rattle.journal.specs.Records.{IsPayload}

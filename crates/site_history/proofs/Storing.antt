@@ -9,7 +9,7 @@ use Rattle.bank.specs.View.{View, IsSound, OnlyContent, Unchanged, Touches}
 use Rattle.bank.specs.Inside.{WroteInside}
 use Rattle.bank.proofs.Writes.{wrote}
 use Rattle.bank.proofs.Inside.{IsRangeInside, wrote_inside}
-use Rattle.records.specs.declared.file.Run.{Run}
+use Rattle.site_types.specs.declared.file.Run.{Run}
 use Rattle.cache_space.specs.Blocks.{is_in_run, is_in_runs}
 use Rattle.cache_space.specs.Space.{AreApart, AreMaximalFrom, AreMaximal, blocks_in}
 use Rattle.cache_space.proofs.HeldBlocks.{AreApart-nil_right, AreApart-append_right}

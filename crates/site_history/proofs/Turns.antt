@@ -6,18 +6,18 @@
 use Rattle.std.proofs.Common.{◌≡◌, ℕ, ◌+◌, ◌<◌, ◌≤◌, List, [], ◌∷◌, ◌++◌, length, take, refl, sym, ◌∙◌, ap, subst, arith, Bool, true, false, cond, Option, Some, None}
 use Rattle.std.specs.Prelude.{is_none, IsTrue}
 use Rattle.std.proofs.lemmas.Bool.{le-leb, lt-leb, eq-eqb, ne_eqb}
-use Rattle.records.specs.declared.event.Event.{Event}
-use Rattle.records.specs.declared.event.Event.TheVariants.{Put as PutEvent, Read as ReadEvent, Remove as RemoveEvent, Configure as ConfigureEvent}
-use Rattle.records.specs.declared.reply.Reply.{Reply}
-use Rattle.records.specs.declared.reply.Reply.TheVariants.{Stored, Done, Bytes, Refused, Line, NoMemory, JournalFull, BankFault}
-use Rattle.records.specs.declared.reply.Rule.{Rule}
-use Rattle.records.specs.declared.reply.Rule.TheVariants.{NoFile}
-use Rattle.records.specs.declared.reply.LineRefusal.TheVariants.{NotACommand}
-use Rattle.records.specs.declared.file.FileRec.{FileRec}
-use Rattle.records.specs.declared.file.SiteTexts.{SiteTexts}
-use Rattle.records.specs.declared.step.StepKind.{StepKind}
-use Rattle.records.specs.declared.step.StepKind.TheVariants.{Configured, Put, Accessed, Removed}
-use Rattle.records.specs.Written.{written}
+use Rattle.site_events.specs.declared.event.Event.{Event}
+use Rattle.site_events.specs.declared.event.Event.TheVariants.{Put as PutEvent, Read as ReadEvent, Remove as RemoveEvent, Configure as ConfigureEvent}
+use Rattle.site_events.specs.declared.reply.Reply.{Reply}
+use Rattle.site_events.specs.declared.reply.Reply.TheVariants.{Stored, Done, Bytes, Refused, Line, NoMemory, JournalFull, BankFault}
+use Rattle.site_events.specs.declared.reply.Rule.{Rule}
+use Rattle.site_events.specs.declared.reply.Rule.TheVariants.{NoFile}
+use Rattle.site_events.specs.declared.reply.LineRefusal.TheVariants.{NotACommand}
+use Rattle.site_types.specs.declared.file.FileRec.{FileRec}
+use Rattle.site_types.specs.declared.file.SiteTexts.{SiteTexts}
+use Rattle.site_types.specs.declared.step.StepKind.{StepKind}
+use Rattle.site_types.specs.declared.step.StepKind.TheVariants.{Configured, Put, Accessed, Removed}
+use Rattle.step_codec.specs.Written.{written}
 use Rattle.configuration.specs.declared.read.FileRefusal.{FileRefusal}
 use Rattle.site_history.specs.Site.{Site, file_at, bytes_of}
 use Rattle.site_history.specs.Steps.{HistoryStep, IsLegal, inode_for, effect}

@@ -1,17 +1,17 @@
 -- What a site answers where nothing fails, and the step that the answer makes.
 use Rattle.std.specs.Prelude.{ℕ, ◌&&◌, ◌||◌, nat_le, nat_lt, Bool, not, if◌then◌else◌, Option, Some, None, is_none, option_map, List, [], length, take}
-use Rattle.records.specs.declared.event.Event.{Event}
-use Rattle.records.specs.declared.event.Event.TheVariants.{Put as PutEvent, Read as ReadEvent, Remove as RemoveEvent, Configure as ConfigureEvent}
-use Rattle.records.specs.declared.reply.Reply.{Reply}
-use Rattle.records.specs.declared.reply.Reply.TheVariants.{Stored, Done, Bytes, Refused, ConfRefused, Line}
-use Rattle.records.specs.declared.reply.Rule.{Rule}
-use Rattle.records.specs.declared.reply.Rule.TheVariants.{NoFile, BadPath, BadAttribute, TooLarge, TooMany, NoSpace, Running}
-use Rattle.records.specs.declared.reply.LineRefusal.TheVariants.{NotACommand}
-use Rattle.records.specs.declared.step.Step.{Step}
-use Rattle.records.specs.declared.step.StepKind.{StepKind}
-use Rattle.records.specs.declared.step.StepKind.TheVariants.{Configured, Put, Accessed, Removed}
-use Rattle.records.specs.declared.file.FileRec.{FileRec}
-use Rattle.records.specs.declared.file.SiteTexts.{SiteTexts}
+use Rattle.site_events.specs.declared.event.Event.{Event}
+use Rattle.site_events.specs.declared.event.Event.TheVariants.{Put as PutEvent, Read as ReadEvent, Remove as RemoveEvent, Configure as ConfigureEvent}
+use Rattle.site_events.specs.declared.reply.Reply.{Reply}
+use Rattle.site_events.specs.declared.reply.Reply.TheVariants.{Stored, Done, Bytes, Refused, ConfRefused, Line}
+use Rattle.site_events.specs.declared.reply.Rule.{Rule}
+use Rattle.site_events.specs.declared.reply.Rule.TheVariants.{NoFile, BadPath, BadAttribute, TooLarge, TooMany, NoSpace, Running}
+use Rattle.site_events.specs.declared.reply.LineRefusal.TheVariants.{NotACommand}
+use Rattle.site_types.specs.declared.step.Step.{Step}
+use Rattle.site_types.specs.declared.step.StepKind.{StepKind}
+use Rattle.site_types.specs.declared.step.StepKind.TheVariants.{Configured, Put, Accessed, Removed}
+use Rattle.site_types.specs.declared.file.FileRec.{FileRec}
+use Rattle.site_types.specs.declared.file.SiteTexts.{SiteTexts}
 use Rattle.base.specs.Paths.{is_legal_path, is_legal_name}
 use Rattle.configuration.specs.declared.read.FileRefusal.{FileRefusal}
 use Rattle.configuration.specs.Readings.{are_within, refusal_of}

@@ -3,9 +3,9 @@ use Rattle.std.specs.Prelude.{◌≡◌, ◌⊎◌, ℕ, ◌+◌, ◌*◌, ◌<�
 use Rattle.bank.specs.Content.{Image, Stands}
 use Rattle.bank.specs.View.{View, IsImage}
 use Rattle.journal.specs.Records.{HoldsRecords}
-use Rattle.records.specs.declared.file.FileRec.{FileRec}
-use Rattle.records.specs.declared.file.Run.{Run}
-use Rattle.records.specs.Written.{written}
+use Rattle.site_types.specs.declared.file.FileRec.{FileRec}
+use Rattle.site_types.specs.declared.file.Run.{Run}
+use Rattle.step_codec.specs.Written.{written}
 use Rattle.site_history.specs.Site.{FileBytes, Site, bytes_of}
 use Rattle.site_history.specs.Steps.{HistoryStep}
 use Rattle.site_history.specs.Histories.{after, IsHistory}

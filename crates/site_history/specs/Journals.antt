@@ -2,8 +2,8 @@
 use Rattle.std.specs.Prelude.{◌≡◌, ◌⊎◌, ℕ, List}
 use Rattle.bank.specs.Content.{Content}
 use Rattle.journal.specs.Records.{IsRecord, AreRecords, HoldsRecords, IsBadAt, end_of}
-use Rattle.records.specs.declared.step.Step.{Step}
-use Rattle.records.specs.Written.{written}
+use Rattle.site_types.specs.declared.step.Step.{Step}
+use Rattle.step_codec.specs.Written.{written}
 use Rattle.site_history.specs.Steps.{HistoryStep, IsLegal}
 use Rattle.site_history.specs.Histories.{after, IsHistory}
 use Rattle.site_history.specs.Images.{written_forms}

@@ -3,9 +3,9 @@ use Rattle.std.specs.Prelude.{◌≡◌, ◌≢◌, ◌⊎◌, ℕ, ◌+◌, ◌
 use Rattle.bank.specs.Content.{Content, Stands}
 use Rattle.bank.specs.View.{View}
 use Rattle.journal.specs.Records.{AllHold}
-use Rattle.records.specs.declared.file.Run.{Run}
-use Rattle.records.specs.declared.step.StepKind.{StepKind}
-use Rattle.records.specs.declared.step.StepKind.TheVariants.{Put}
+use Rattle.site_types.specs.declared.file.Run.{Run}
+use Rattle.site_types.specs.declared.step.StepKind.{StepKind}
+use Rattle.site_types.specs.declared.step.StepKind.TheVariants.{Put}
 use Rattle.cache_space.specs.Blocks.{is_in_runs}
 use Rattle.site_history.specs.Steps.{HistoryStep}
 use Rattle.site_history.specs.Histories.{after}

@@ -1,9 +1,9 @@
 -- A world: a history, the clock, and what a fault in the journal left open. And what one event does to it.
 use Rattle.std.specs.Prelude.{◌≡◌, ◌⊎◌, ℕ, ◌+◌, ◌-◌, ◌^◌, min, max, ◌==◌, nat_le, Bool, true, false, if◌then◌else◌, Option, Some, None, List, [], ◌∷◌, ◌++◌, length}
-use Rattle.records.specs.Written.{written}
-use Rattle.records.specs.declared.event.Event.{Event}
-use Rattle.records.specs.declared.reply.Reply.{Reply}
-use Rattle.records.specs.declared.reply.Reply.TheVariants.{Bytes, NoMemory, JournalFull, BankFault, BadJournal}
+use Rattle.step_codec.specs.Written.{written}
+use Rattle.site_events.specs.declared.event.Event.{Event}
+use Rattle.site_events.specs.declared.reply.Reply.{Reply}
+use Rattle.site_events.specs.declared.reply.Reply.TheVariants.{Bytes, NoMemory, JournalFull, BankFault, BadJournal}
 use Rattle.site_history.specs.Site.{Site}
 use Rattle.site_history.specs.Steps.{HistoryStep}
 use Rattle.site_history.specs.Histories.{after, IsHistory, journal_length}

@@ -4,8 +4,8 @@ use Rattle.std.specs.Prelude.{All, ◌==◌, position, slice_get, remove, is_som
 use Rattle.std.specs.List.{list_any}
 use Rattle.std.specs.Option.{option_map_or}
 use Rattle.std.specs.Str.{bytes_eq}
-use Rattle.records.specs.declared.file.FileRec.{FileRec}
-use Rattle.records.specs.declared.file.Run.{Run}
+use Rattle.site_types.specs.declared.file.FileRec.{FileRec}
+use Rattle.site_types.specs.declared.file.Run.{Run}
 use Rattle.cache_space.specs.Space.{taken_by, AreApart}
 use Rattle.site_history.specs.Site.{Fields, Site, file_at, held_runs, with_file, cache_blocks}
 use Rattle.site_history.specs.Steps.{PutOf, stored_file, accessed_by, without_file, IsThere, IsLegalPut, next_after, put_effect}

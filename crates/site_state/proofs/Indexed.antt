@@ -4,8 +4,8 @@ use Rattle.std.specs.Prelude.{All, slice_get, insert, remove}
 use Rattle.std.specs.Vec.{with_item}
 use Rattle.std.proofs.lemmas.List.Elements.{All-set, All-push}
 use Rattle.std.proofs.lemmas.Option.{slice_get_within, slice_get_read, get_or_from_slice_get}
-use Rattle.records.specs.Ranges.{IsInode}
-use Rattle.records.specs.declared.file.FileRec.{FileRec}
+use Rattle.site_types.specs.Ranges.{IsInode}
+use Rattle.site_types.specs.declared.file.FileRec.{FileRec}
 use Rattle.site_state.specs.declared.files.Files.TheInside.{Inside}
 use Rattle.site_state.specs.PathIndex.{RiseByInode, IsPathIndex, IsPlaceFor}
 use Rattle.site_state.specs.Inside.{AreIndexed}

@@ -20,7 +20,7 @@ use Rattle.std.proofs.lemmas.List.Sorted.{searchable_from_sorted}
 use Rattle.std.proofs.lemmas.Map.Text.{is_eq-slice_cmp}
 use Rattle.std.proofs.lemmas.Option.{slice_get_within, slice_get-get_or, get_or_from_slice_get}
 use Rattle.std.proofs.lemmas.Slice.Eq.{bytes_eq-Decides}
-use Rattle.records.specs.declared.file.FileRec.{FileRec}
+use Rattle.site_types.specs.declared.file.FileRec.{FileRec}
 use Rattle.site_history.specs.Site.{file_at}
 use Rattle.site_state.specs.PathIndex.{RiseByInode, path_of, IsPathIndex, IsPlaceFor}
 use Rattle.site_state.proofs.Places.{position_at, position-none, find_at, find-none, none_passes}

@@ -4,10 +4,10 @@ use Rattle.std.proofs.lemmas.List.{length-map, length-replicate, take-append-dro
 use Rattle.journal.specs.Records.{end_of}
 use Rattle.journal.proofs.RecordLaws.{end-above, end-push}
 use Rattle.journal.proofs.Held.{end-append}
-use Rattle.records.specs.declared.step.Step.{Step}
-use Rattle.records.specs.declared.step.StepKind.{StepKind}
-use Rattle.records.specs.declared.step.StepKind.TheVariants.{Put}
-use Rattle.records.specs.Written.{written}
+use Rattle.site_types.specs.declared.step.Step.{Step}
+use Rattle.site_types.specs.declared.step.StepKind.{StepKind}
+use Rattle.site_types.specs.declared.step.StepKind.TheVariants.{Put}
+use Rattle.step_codec.specs.Written.{written}
 use Rattle.site_history.specs.Site.{Site, Fields, first_fields}
 use Rattle.site_history.specs.Steps.{HistoryStep, fields_after, IsLegal, HasBytes}
 use Rattle.site_history.specs.Histories.{after}

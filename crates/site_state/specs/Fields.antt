@@ -1,9 +1,9 @@
 -- The fields of a put, as its step has them.
 use Rattle.std.specs.Prelude.{List, []}
-use Rattle.records.specs.declared.file.Run.{Run}
-use Rattle.records.specs.declared.step.Step.{Step}
-use Rattle.records.specs.declared.step.StepKind.{StepKind}
-use Rattle.records.specs.declared.step.StepKind.TheVariants.{Put}
+use Rattle.site_types.specs.declared.file.Run.{Run}
+use Rattle.site_types.specs.declared.step.Step.{Step}
+use Rattle.site_types.specs.declared.step.StepKind.{StepKind}
+use Rattle.site_types.specs.declared.step.StepKind.TheVariants.{Put}
 use Rattle.site_history.specs.Steps.{PutOf}
 use Rattle.site_state.specs.declared.stored.PutFields.{PutFields}
 

@@ -1,7 +1,7 @@
 -- What holds of the files' fields.
 use Rattle.std.specs.Prelude.{All}
-use Rattle.records.specs.Ranges.{IsInode}
-use Rattle.records.specs.declared.file.FileRec.{FileRec}
+use Rattle.site_types.specs.Ranges.{IsInode}
+use Rattle.site_types.specs.declared.file.FileRec.{FileRec}
 use Rattle.site_state.specs.PathIndex.{RiseByInode, IsPathIndex}
 use Rattle.site_state.specs.declared.files.Files.TheInside.{Inside}
 

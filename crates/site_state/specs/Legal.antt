@@ -1,9 +1,9 @@
 -- Which steps may come, before the texts of a configuration are read.
 use Rattle.std.specs.Prelude.{◌≡◌, ◌≤◌, []}
-use Rattle.records.specs.declared.step.Step.{Step}
-use Rattle.records.specs.declared.step.StepKind.{StepKind}
-use Rattle.records.specs.declared.step.StepKind.TheVariants.{Configured}
-use Rattle.records.specs.Written.{InRange}
+use Rattle.site_types.specs.declared.step.Step.{Step}
+use Rattle.site_types.specs.declared.step.StepKind.{StepKind}
+use Rattle.site_types.specs.declared.step.StepKind.TheVariants.{Configured}
+use Rattle.step_codec.specs.Written.{InRange}
 use Rattle.configuration.specs.Readings.{AreWithin}
 use Rattle.site_history.specs.Site.{Fields}
 use Rattle.site_history.specs.Steps.{IsLegal}

@@ -6,7 +6,7 @@ use Rattle.std.specs.Option.{option_map_or}
 use Rattle.std.specs.Cmp.Lexicographic.{slice_cmp}
 use Rattle.std.specs.Ordering.{nat_cmp}
 use Rattle.std.specs.declared.cmp.Ordering.TheVariants.{Less, Greater}
-use Rattle.records.specs.declared.file.FileRec.{FileRec}
+use Rattle.site_types.specs.declared.file.FileRec.{FileRec}
 
 -- each file's inode is below those of the files behind it
 abbrev pub RiseByInode : List FileRec → Type 0

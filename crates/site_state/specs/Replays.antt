@@ -1,8 +1,8 @@
 -- What the payloads of a journal say of a site.
 use Rattle.std.specs.Prelude.{◌≡◌, ℕ, ◌^◌, ◌<◌, List, ◌∷◌, ◌++◌, MatchOption, Option}
 use Rattle.journal.specs.Records.{end_of}
-use Rattle.records.specs.declared.step.Step.{Step}
-use Rattle.records.specs.Written.{written}
+use Rattle.site_types.specs.declared.step.Step.{Step}
+use Rattle.step_codec.specs.Written.{written}
 use Rattle.site_history.specs.Site.{Fields}
 use Rattle.site_history.specs.Steps.{HistoryStep, IsLegal}
 use Rattle.site_history.specs.Histories.{after, IsHistory}

@@ -1,9 +1,9 @@
 -- What stands ready for a step, so that its making takes no memory.
 use Rattle.std.specs.Prelude.{◌≡◌, ◌<◌, None, Option, MatchOption, []}
-use Rattle.records.specs.declared.file.SiteTexts.{SiteTexts}
-use Rattle.records.specs.declared.step.Step.{Step}
-use Rattle.records.specs.declared.step.StepKind.{StepKind}
-use Rattle.records.specs.declared.step.StepKind.TheVariants.{Configured, Put}
+use Rattle.site_types.specs.declared.file.SiteTexts.{SiteTexts}
+use Rattle.site_types.specs.declared.step.Step.{Step}
+use Rattle.site_types.specs.declared.step.StepKind.{StepKind}
+use Rattle.site_types.specs.declared.step.StepKind.TheVariants.{Configured, Put}
 use Rattle.configuration.specs.Readings.{blocks_of}
 use Rattle.configuration.specs.Says.{Says}
 use Rattle.cache_space.specs.Space.{taken_by}

@@ -1,9 +1,9 @@
 //! What a step changes of a site.
 
 ghost use Rattle.std.specs.Prelude.{◌≡◌, ◌+◌, ◌<◌, ◌^◌, List as Seq, [], None, length};
-ghost use Rattle.records.specs.Ranges.{IsInode};
-ghost use Rattle.records.specs.Written.{InRange};
-ghost use Rattle.records.specs.declared.file.SiteTexts.{SiteTexts};
+ghost use Rattle.site_types.specs.Ranges.{IsInode};
+ghost use Rattle.step_codec.specs.Written.{InRange};
+ghost use Rattle.site_types.specs.declared.file.SiteTexts.{SiteTexts};
 ghost use Rattle.site_history.specs.Site.{Fields, file_at};
 ghost use Rattle.site_history.specs.Steps.{HistoryStep, IsLegal, IsLegalPut, IsThere, put_effect, accessed_effect, removed_effect, configured_effect, fields_after};
 ghost use Rattle.site_history.specs.Histories.{after, IsHistory};
@@ -14,7 +14,7 @@ ghost use Rattle.site_state.specs.Keeps.{Keeps};
 use crate::prepare::{Prepared, Setting};
 use crate::state::SiteState;
 use crate::stored::{PutFields, new_file};
-use records::{Step, StepKind};
+use site_types::{Step, StepKind};
 
 impl SiteState {
     // Keeps what a put stores. A replaced file's runs are free once the new ones are held.

@@ -4,18 +4,18 @@ ghost use Rattle.std.specs.Prelude.{◌≡◌, ◌==◌, ◌<◌, ◌≤◌, ◌
 ghost use Rattle.std.specs.List.{position};
 ghost use Rattle.std.specs.Option.{option_copied};
 ghost use Rattle.std.specs.Str.{bytes_eq};
-ghost use Rattle.records.specs.Ranges.{IsInode};
+ghost use Rattle.site_types.specs.Ranges.{IsInode};
 ghost use Rattle.site_history.specs.Site.{file_at};
 ghost use Rattle.site_history.specs.Steps.{stored_file};
 ghost use Rattle.site_state.specs.Fields.{put_of};
-ghost use Rattle.records.specs.declared.file.FileRec.{FileRec as Rec};
+ghost use Rattle.site_types.specs.declared.file.FileRec.{FileRec as Rec};
 
 use crate::path_index::{
     index_of_inode, index_of_path, is_above_all, place_for_path, place_of_file,
 };
 use crate::stored::{PutFields, store_over};
 use base::List;
-use records::{FileRec, Run};
+use site_types::{FileRec, Run};
 use std::alloc::{AllocError, Global};
 use std::marker::Model;
 

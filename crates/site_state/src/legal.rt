@@ -2,7 +2,7 @@
 
 ghost use Rattle.std.specs.Prelude.{◌≡◌, ◌<◌, ◌≤◌, ◌↔◌, ℕ, IsTrue, MatchOption, length};
 ghost use Rattle.base.specs.Paths.{is_legal_path, is_legal_name};
-ghost use Rattle.records.specs.Written.{InRange};
+ghost use Rattle.step_codec.specs.Written.{InRange};
 ghost use Rattle.cache_space.specs.Blocks.{blocks_for};
 ghost use Rattle.cache_space.specs.Space.{AreFree, AreMaximal, blocks_in};
 ghost use Rattle.site_history.specs.Site.{Fields, file_at, held_runs, cache_blocks};
@@ -14,7 +14,7 @@ use crate::state::SiteState;
 use base::{is_legal_name, is_legal_path};
 use cache_space::{are_maximal, blocks_needed, have_blocks};
 use configuration::are_within;
-use records::{Run, Step, StepKind};
+use site_types::{Run, Step, StepKind};
 
 /// The most bytes of a file.
 pub const FILE_MAX: u64 = 16_777_216;

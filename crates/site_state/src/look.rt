@@ -3,7 +3,7 @@
 ghost use Rattle.std.specs.Prelude.{◌≡◌, ◌≤◌, ◌<◌, length, IfOk, IfSome, OnOk};
 ghost use Rattle.std.specs.Option.{option_copied};
 ghost use Rattle.std.specs.List.{AllByRecursion};
-ghost use Rattle.records.specs.Ranges.{IsInode, IsRun};
+ghost use Rattle.site_types.specs.Ranges.{IsInode, IsRun};
 ghost use Rattle.cache_space.specs.Blocks.{blocks_for, free_blocks, lowest_runs};
 ghost use Rattle.cache_space.specs.Space.{AreMaximal};
 ghost use Rattle.configuration.specs.Says.{Says};
@@ -14,7 +14,7 @@ use crate::state::SiteState;
 use base::List;
 use cache_space::blocks_needed;
 use configuration::Configuration;
-use records::{FileRec, Run};
+use site_types::{FileRec, Run};
 use std::alloc::AllocError;
 
 impl SiteState {

@@ -7,9 +7,9 @@ ghost use Rattle.std.specs.Cmp.Lexicographic.{slice_cmp};
 ghost use Rattle.std.specs.Ordering.{nat_cmp};
 ghost use Rattle.site_history.specs.Site.{file_at};
 ghost use Rattle.site_state.specs.PathIndex.{RiseByInode, path_of, IsPathIndex, IsPlaceFor};
-ghost use Rattle.records.specs.declared.file.FileRec.{FileRec as Rec};
+ghost use Rattle.site_types.specs.declared.file.FileRec.{FileRec as Rec};
 
-use records::FileRec;
+use site_types::FileRec;
 use std::cmp::Ordering;
 
 /// The index of the file of an inode, in files by rising inode.

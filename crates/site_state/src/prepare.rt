@@ -1,7 +1,7 @@
 //! Steps with what their making takes memory for.
 
 ghost use Rattle.std.specs.Prelude.{◌≡◌, None, IfOk, IfErr, IfSome, OnOk, MatchOption};
-ghost use Rattle.records.specs.Written.{InRange};
+ghost use Rattle.step_codec.specs.Written.{InRange};
 ghost use Rattle.configuration.specs.Readings.{AreWithin, refusal_of};
 ghost use Rattle.configuration.specs.Says.{TellsRefusal};
 ghost use Rattle.site_history.specs.Site.{Fields};
@@ -12,7 +12,7 @@ ghost use Rattle.site_state.specs.Keeps.{Keeps};
 use crate::state::SiteState;
 use cache_space::CacheSpace;
 use configuration::{Configuration, ConfigurationError, read_configuration};
-use records::{SiteTexts, Step, StepKind};
+use site_types::{SiteTexts, Step, StepKind};
 use std::alloc::{AllocError, Global};
 
 /// What a new configuration brings: what its texts say, and the free blocks of its cache.

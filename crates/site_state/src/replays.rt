@@ -2,7 +2,7 @@
 
 ghost use Rattle.std.specs.Prelude.{◌≡◌, ◌+◌, ◌<◌, ◌≤◌, IfOk, IfErr, IfSome, All};
 ghost use Rattle.journal.specs.Records.{IsPayload};
-ghost use Rattle.records.specs.Written.{InRange};
+ghost use Rattle.step_codec.specs.Written.{InRange};
 ghost use Rattle.site_history.specs.Site.{Fields, first_fields};
 ghost use Rattle.site_state.specs.Replays.{IsRead, Replays, TellsPayloads};
 ghost use Rattle.site_state.specs.Room.{IsPrepared};
@@ -13,7 +13,8 @@ use crate::prepare::{Prepared, Setting};
 use crate::state::SiteState;
 use base::Bytes;
 use configuration::ConfigurationError;
-use records::{SiteTexts, StepRefusal, decode_step};
+use site_types::SiteTexts;
+use step_codec::{StepRefusal, decode_step};
 use std::alloc::{AllocError, Global};
 
 /// Why payloads are not replayed.

@@ -5,7 +5,7 @@ ghost use Rattle.site_history.specs.Steps.{stored_file};
 ghost use Rattle.site_state.specs.Fields.{put_of};
 
 use base::{Bytes, List};
-use records::{CopySlots, FileRec, ReleaseKind, Run, StageKind};
+use site_types::{CopySlots, FileRec, ReleaseKind, Run, StageKind};
 
 /// The fields of a put's step.
 #[derive(Drop)]

@@ -1,7 +1,7 @@
 use Rattle.std.proofs.Common.{drop, vec_len, sym, ap, arith}
 use Rattle.std.proofs.lemmas.Bool.{eqb-false}
 use Rattle.std.proofs.lemmas.List.{length-drop}
-use Rattle.records.specs.declared.file.Run.{Run}
+use Rattle.site_types.specs.declared.file.Run.{Run}
 use Rattle.cache_space.proofs.LowestRuns.{first_run_small}
 use Rattle.cache_space.proofs.plain.plain_runs.Goals as goal
 

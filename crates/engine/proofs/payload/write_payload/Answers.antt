@@ -1,7 +1,7 @@
 use Rattle.std.proofs.Common.{List, ℕ, sym, subst, ◌∙◌, ap, ◌++◌}
 use Rattle.journal.specs.Records.{IsPayload}
 use Rattle.journal.proofs.RecordLaws.{ok_then}
-use Rattle.records.specs.Written.{written}
+use Rattle.step_codec.specs.Written.{written}
 use Rattle.site_history.proofs.StepRanges.{short-payload}
 use Rattle.engine.proofs.payload.write_payload.Goals as goal
 

@@ -1,6 +1,6 @@
 use Rattle.std.proofs.Common.{◌≡◌, inl, inr, refl, Result, Err, arith}
 use Rattle.outside.specs.declared.folder.FolderFault.{FolderFault}
-use Rattle.records.specs.declared.file.SiteTexts.{SiteTexts}
+use Rattle.site_types.specs.declared.file.SiteTexts.{SiteTexts}
 use Rattle.session.proofs.Responses.{counted_reply, configured_response, unread_response}
 use Rattle.session.proofs.round.configure.Goals as goal
 

@@ -1,6 +1,6 @@
 use Rattle.std.proofs.Common.{◌≡◌, Result, Ok, arith}
-use Rattle.records.specs.declared.event.Asked.{Asked}
-use Rattle.records.specs.declared.reply.LineRefusal.{LineRefusal}
+use Rattle.site_events.specs.declared.event.Asked.{Asked}
+use Rattle.site_events.specs.declared.reply.LineRefusal.{LineRefusal}
 use Rattle.session.proofs.Responses.{read_alike, counted_reply, event_response, at_response, configure_response, other_response, refused_response}
 use Rattle.session.proofs.round.respond.Goals as goal
 

@@ -3,7 +3,7 @@ use Rattle.std.specs.Cmp.Lexicographic.{slice_cmp}
 use Rattle.std.specs.Ordering.{nat_cmp}
 use Rattle.std.specs.declared.cmp.Ordering.TheVariants.{Equal}
 use Rattle.std.proofs.lemmas.Option.{get_or_from_slice_get}
-use Rattle.records.specs.declared.file.FileRec.{FileRec}
+use Rattle.site_types.specs.declared.file.FileRec.{FileRec}
 use Rattle.site_state.specs.PathIndex.{path_of}
 use Rattle.site_state.proofs.PathIndex.{no_path, inode_at_place}
 use Rattle.site_state.proofs.path_index.place_of_file.Goals as goal

@@ -1,10 +1,10 @@
 use Rattle.std.proofs.Common.{◌≡◌, sym, ◌∙◌, ap, subst, Some, None}
-use Rattle.records.specs.declared.file.SiteTexts.{SiteTexts}
+use Rattle.site_types.specs.declared.file.SiteTexts.{SiteTexts}
 use Rattle.configuration.specs.declared.read.ConfigurationError.{ConfigurationError}
 use Rattle.configuration.specs.declared.read.ConfigurationError.TheVariants.{Refused}
 use Rattle.configuration.specs.declared.read.FileRefusal.{FileRefusal}
 use Rattle.configuration.specs.Readings.{refusal_of}
-use Rattle.records.specs.Texts.{no_texts}
+use Rattle.site_types.specs.Texts.{no_texts}
 use Rattle.configuration.specs.Says.{TellsRefusal}
 use Rattle.configuration.proofs.Laws.{no_texts-read}
 use Rattle.site_state.proofs.replays.first_site.Goals as goal

@@ -3,7 +3,7 @@ use Rattle.std.specs.Prelude.{IsTrue}
 use Rattle.journal.specs.Records.{AllHold, IsBeforeOrAfter}
 use Rattle.journal.specs.State.{JournalState}
 use Rattle.bank.specs.View.{LeavesOnly, Wrote}
-use Rattle.records.specs.declared.step.Step.{Step}
+use Rattle.site_types.specs.declared.step.Step.{Step}
 use Rattle.site_history.specs.Histories.{after}
 use Rattle.site_history.specs.Steps.{fields_after, IsLegal}
 use Rattle.site_history.specs.Images.{written_forms}

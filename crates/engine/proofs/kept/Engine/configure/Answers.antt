@@ -6,9 +6,9 @@ use Rattle.configuration.specs.declared.read.ConfigurationError.{ConfigurationEr
 use Rattle.configuration.specs.declared.read.FileRefusal.{FileRefusal}
 use Rattle.configuration.specs.Readings.{refusal_of}
 use Rattle.configuration.specs.Says.{TellsRefusal}
-use Rattle.records.specs.declared.event.Event.TheVariants.{Configure as ConfigureEvent}
-use Rattle.records.specs.declared.reply.Reply.TheVariants.{Refused, Done}
-use Rattle.records.specs.Written.{written}
+use Rattle.site_events.specs.declared.event.Event.TheVariants.{Configure as ConfigureEvent}
+use Rattle.site_events.specs.declared.reply.Reply.TheVariants.{Refused, Done}
+use Rattle.step_codec.specs.Written.{written}
 use Rattle.site_history.specs.Histories.{after, journal_length}
 use Rattle.site_history.specs.Worlds.{at}
 use Rattle.site_history.specs.Answers.{conf_refused}

@@ -1,5 +1,5 @@
 use Rattle.std.proofs.Common.{sym, subst}
-use Rattle.records.specs.declared.file.SiteTexts.{SiteTexts}
+use Rattle.site_types.specs.declared.file.SiteTexts.{SiteTexts}
 use Rattle.configuration.specs.Readings.{AreWithin}
 use Rattle.site_history.proofs.StepRanges.{configured-range}
 use Rattle.engine.proofs.kept.Engine.prepare_configuration.Goals as goal

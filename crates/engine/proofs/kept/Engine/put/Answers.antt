@@ -4,10 +4,10 @@ use Rattle.bank.specs.View.{OnlyRead}
 use Rattle.bank.specs.Inside.{WroteInside}
 use Rattle.bank.proofs.Readings.{nothing_read}
 use Rattle.journal.specs.State.{JournalState}
-use Rattle.records.specs.declared.event.Event.TheVariants.{Put as PutEvent}
-use Rattle.records.specs.declared.file.Run.{Run}
-use Rattle.records.specs.declared.reply.Reply.TheVariants.{Stored}
-use Rattle.records.specs.Written.{written}
+use Rattle.site_events.specs.declared.event.Event.TheVariants.{Put as PutEvent}
+use Rattle.site_types.specs.declared.file.Run.{Run}
+use Rattle.site_events.specs.declared.reply.Reply.TheVariants.{Stored}
+use Rattle.step_codec.specs.Written.{written}
 use Rattle.site_history.specs.Histories.{after, journal_length}
 use Rattle.site_history.specs.Images.{extents_over}
 use Rattle.site_history.specs.Pinned.{StandInAll, in_blocks_of}

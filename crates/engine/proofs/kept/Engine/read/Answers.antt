@@ -1,8 +1,8 @@
 use Rattle.std.proofs.Common.{◌≡◌, ◌++◌, ◌∷◌, [], ℕ, length, take, refl, ◌∙◌, ap, arith, rules}
 use Rattle.bank.proofs.Readings.{nothing_read}
-use Rattle.records.specs.declared.event.Event.TheVariants.{Read as ReadEvent}
-use Rattle.records.specs.declared.reply.Reply.TheVariants.{Bytes}
-use Rattle.records.specs.declared.reply.Rule.TheVariants.{NoFile}
+use Rattle.site_events.specs.declared.event.Event.TheVariants.{Read as ReadEvent}
+use Rattle.site_events.specs.declared.reply.Reply.TheVariants.{Bytes}
+use Rattle.site_events.specs.declared.reply.Rule.TheVariants.{NoFile}
 use Rattle.site_history.specs.Histories.{after}
 use Rattle.site_history.specs.Worlds.{at}
 use Rattle.site_history.proofs.StepRanges.{accessed_in_range}

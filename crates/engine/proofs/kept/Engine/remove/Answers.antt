@@ -1,8 +1,8 @@
 use Rattle.std.proofs.Common.{◌++◌, ◌∷◌, [], refl, rules}
 use Rattle.bank.proofs.Readings.{nothing_read}
-use Rattle.records.specs.declared.event.Event.TheVariants.{Remove as RemoveEvent}
-use Rattle.records.specs.declared.reply.Reply.TheVariants.{Done}
-use Rattle.records.specs.declared.reply.Rule.TheVariants.{NoFile}
+use Rattle.site_events.specs.declared.event.Event.TheVariants.{Remove as RemoveEvent}
+use Rattle.site_events.specs.declared.reply.Reply.TheVariants.{Done}
+use Rattle.site_events.specs.declared.reply.Rule.TheVariants.{NoFile}
 use Rattle.site_history.specs.Histories.{after}
 use Rattle.site_history.specs.Worlds.{at}
 use Rattle.site_history.proofs.StepRanges.{removed_in_range}

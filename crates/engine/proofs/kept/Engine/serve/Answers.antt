@@ -1,7 +1,7 @@
 use Rattle.std.proofs.Common.{ℕ, List, ◌∙◌, ap, refl, sym, subst}
 use Rattle.bank.proofs.Readings.{nothing_read}
-use Rattle.records.specs.declared.event.Event.{Event}
-use Rattle.records.specs.declared.event.Event.TheVariants.{Read as ReadEvent, Remove as RemoveEvent}
+use Rattle.site_events.specs.declared.event.Event.{Event}
+use Rattle.site_events.specs.declared.event.Event.TheVariants.{Read as ReadEvent, Remove as RemoveEvent}
 use Rattle.site_history.specs.Histories.{after}
 use Rattle.site_history.specs.Worlds.{at, Turn}
 use Rattle.site_history.proofs.Turns.{other-answer, line-turn}

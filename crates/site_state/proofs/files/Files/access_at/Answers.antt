@@ -1,5 +1,5 @@
 use Rattle.std.proofs.Common.{◌<◌, List, length, set, refl, sym, ◌∙◌, ap, subst}
-use Rattle.records.specs.declared.file.FileRec.{FileRec}
+use Rattle.site_types.specs.declared.file.FileRec.{FileRec}
 use Rattle.site_state.specs.FileList.{FileList}
 use Rattle.site_state.proofs.Indexed.{file_there, indexed-set}
 use Rattle.site_state.proofs.files.Files.access_at.Goals as goal

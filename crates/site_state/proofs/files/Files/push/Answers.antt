@@ -1,7 +1,7 @@
 use Rattle.std.proofs.Common.{◌≡◌, ℕ, ◌≤◌, ◌<◌, List, [], ◌∷◌, ◌++◌, length, subst, arith}
 use Rattle.std.specs.Prelude.{All, insert}
 use Rattle.std.proofs.lemmas.Grind.{common_steps}
-use Rattle.records.specs.declared.file.FileRec.{FileRec}
+use Rattle.site_types.specs.declared.file.FileRec.{FileRec}
 use Rattle.site_state.specs.PathIndex.{IsPlaceFor}
 use Rattle.site_state.proofs.Indexed.{indexed-push}
 use Rattle.site_state.proofs.files.Files.push.Goals as goal

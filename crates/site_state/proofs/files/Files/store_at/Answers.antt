@@ -1,5 +1,5 @@
 use Rattle.std.proofs.Common.{◌+◌, ◌<◌, ◌^◌, List, length, set, Some, sym, ◌∙◌, ap, subst}
-use Rattle.records.specs.declared.file.FileRec.{FileRec}
+use Rattle.site_types.specs.declared.file.FileRec.{FileRec}
 use Rattle.site_history.specs.Steps.{stored_file}
 use Rattle.site_state.specs.Fields.{put_of}
 use Rattle.site_state.specs.FileList.{FileList}

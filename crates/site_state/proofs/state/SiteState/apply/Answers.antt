@@ -1,7 +1,7 @@
 use Rattle.std.proofs.Common.{subst}
-use Rattle.records.proofs.InRange.{ranges}
-use Rattle.records.specs.Ranges.{Ranges}
-use Rattle.records.specs.declared.step.StepKind.{StepKind}
+use Rattle.step_codec.proofs.InRange.{ranges}
+use Rattle.site_types.specs.Ranges.{Ranges}
+use Rattle.site_types.specs.declared.step.StepKind.{StepKind}
 use Rattle.site_history.specs.Histories.{after}
 use Rattle.site_state.proofs.Legality.{not_served}
 use Rattle.site_state.proofs.state.SiteState.apply.Goals as goal

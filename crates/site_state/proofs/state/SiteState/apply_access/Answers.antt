@@ -1,6 +1,6 @@
 use Rattle.std.proofs.Common.{List, length, refl, sym, ◌∙◌, ap}
 use Rattle.cache_space.specs.Space.{taken_by}
-use Rattle.records.specs.declared.file.Run.{Run}
+use Rattle.site_types.specs.declared.file.Run.{Run}
 use Rattle.site_history.specs.Site.{cache_blocks}
 use Rattle.site_history.specs.Histories.{after}
 use Rattle.site_history.proofs.HeldRuns.{held-accessed}

@@ -1,7 +1,7 @@
 use Rattle.std.proofs.Common.{◌≡◌, ℕ, List, length, refl, sym, ◌∙◌, ap, None, Some, Option}
 use Rattle.std.specs.Prelude.{position}
 use Rattle.std.specs.Str.{bytes_eq}
-use Rattle.records.specs.declared.file.FileRec.{FileRec}
+use Rattle.site_types.specs.declared.file.FileRec.{FileRec}
 use Rattle.site_history.specs.Site.{file_at}
 use Rattle.site_history.specs.Histories.{after}
 use Rattle.site_history.proofs.SiteLaws.{orderly}

@@ -1,6 +1,6 @@
 use Rattle.std.proofs.Common.{◌≡◌, List, ◌++◌, length, refl, sym, ◌∙◌, subst}
 use Rattle.cache_space.specs.Space.{taken_by, AreApart}
-use Rattle.records.specs.declared.file.Run.{Run}
+use Rattle.site_types.specs.declared.file.Run.{Run}
 use Rattle.site_history.specs.Histories.{after}
 use Rattle.site_history.proofs.SiteLaws.{orderly}
 use Rattle.site_state.proofs.Effects.{removed_list, removed_space, not_there}

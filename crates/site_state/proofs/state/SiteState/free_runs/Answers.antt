@@ -1,6 +1,6 @@
 use Rattle.std.proofs.Common.{List, length, sym, subst, arith}
 use Rattle.cache_space.specs.Space.{AreMaximal}
-use Rattle.records.specs.declared.file.Run.{Run}
+use Rattle.site_types.specs.declared.file.Run.{Run}
 use Rattle.cache_space.proofs.LowestRuns.{lowest_runs-maximal}
 use Rattle.site_history.proofs.RunRanges.{lowest_known, held_by}
 use Rattle.site_state.proofs.state.SiteState.free_runs.Goals as goal

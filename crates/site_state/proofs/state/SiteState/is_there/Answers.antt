@@ -1,7 +1,7 @@
 use Rattle.std.proofs.Common.{List, sym, ◌∙◌, ap}
 use Rattle.std.specs.Prelude.{◌==◌, is_some}
 use Rattle.std.specs.List.{list_any}
-use Rattle.records.specs.declared.file.FileRec.{FileRec}
+use Rattle.site_types.specs.declared.file.FileRec.{FileRec}
 use Rattle.site_state.proofs.Places.{is_some-position}
 use Rattle.site_state.proofs.state.SiteState.is_there.Goals as goal
 

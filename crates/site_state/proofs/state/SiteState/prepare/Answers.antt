@@ -1,5 +1,5 @@
 use Rattle.std.proofs.Common.{subst, rules}
-use Rattle.records.specs.declared.step.StepKind.{StepKind}
+use Rattle.site_types.specs.declared.step.StepKind.{StepKind}
 use Rattle.site_state.specs.Legal.{AreTextsWithin}
 use Rattle.site_state.proofs.state.SiteState.prepare.Goals as goal
 
