@@ -1,9 +1,8 @@
 //! The form of each kind, written out by hand.
 
 use site_types::{
-    AttributedStep, CopyMadeStep, DamagedStep, FileCopy, Flag, FlaggedStep, PutStep,
-    RelabelledStep, ReleaseKind, ReleasedStep, RenamedStep, Run, StageKind, StagedStep, StepKind,
-    VolumeEnd,
+    AttributedStep, DamagedStep, FileCopy, Flag, FlaggedStep, RelabelledStep, ReleaseKind,
+    ReleasedStep, Run, StageKind, StepKind, VolumeEnd,
 };
 use std::alloc::Global;
 use std::test::Fail;
@@ -59,143 +58,164 @@ fn is_form(alloc: Global, bytes: &[u8]) -> Result<Option<StepKind>, StepRefusal>
 
 #[test]
 fn a_configuration(rt: HostRuntime) -> Result<(), Fail> {
-    let configured = is_form(rt.alloc(), CONFIGURED)?;
-    assert!(rt;
-        matches!(&configured, Some(StepKind::Configured(t)) if t.site.as_slice() == b"a".as_slice() && t.archiver.is_empty() && t.stager.as_slice() == b"bc".as_slice() && t.releaser.is_empty() && t.recycler.as_slice() == b"d".as_slice())
-    );
+    let Some(StepKind::Configured(texts)) = is_form(rt.alloc(), CONFIGURED)? else {
+        return Err("another step")?;
+    };
+    assert!(rt; texts.site.as_slice() == b"a".as_slice() && texts.archiver.is_empty());
+    assert!(rt; texts.stager.as_slice() == b"bc".as_slice() && texts.releaser.is_empty());
+    assert!(rt; texts.recycler.as_slice() == b"d".as_slice());
     Ok(())
 }
 
 #[test]
 fn a_put(rt: HostRuntime) -> Result<(), Fail> {
-    let put = is_form(rt.alloc(), PUT)?;
+    let Some(StepKind::Put(put)) = is_form(rt.alloc(), PUT)? else {
+        return Err("another step")?;
+    };
+    let runs = [Run { first: 3, count: 1 }, Run { first: 9, count: 2 }];
+    assert!(rt; put.inode == 7 && put.length == 258 && put.path.as_slice() == b"/a".as_slice());
+    assert!(rt; put.owner.as_slice() == b"u".as_slice() && put.group.as_slice() == b"g".as_slice());
+    assert!(rt; put.runs.as_slice() == runs.as_slice());
+    Ok(())
+}
+
+#[test]
+fn an_access(rt: HostRuntime) -> Result<(), Fail> {
+    let step = is_form(rt.alloc(), ACCESSED)?;
+    assert!(rt; matches!(&step, Some(StepKind::Accessed { inode }) if *inode == 7));
+    Ok(())
+}
+
+#[test]
+fn a_removal(rt: HostRuntime) -> Result<(), Fail> {
+    let step = is_form(rt.alloc(), REMOVED)?;
+    assert!(rt; matches!(&step, Some(StepKind::Removed { inode }) if *inode == 4_294_967_294));
+    Ok(())
+}
+
+#[test]
+fn a_new_path(rt: HostRuntime) -> Result<(), Fail> {
+    let step = is_form(rt.alloc(), RENAMED)?;
     assert!(rt;
-        matches!(&put, Some(StepKind::Put(PutStep { inode: 7, path, owner, group, length: 258, runs }))
-        if path.as_slice() == b"/a".as_slice() && owner.as_slice() == b"u".as_slice() && group.as_slice() == b"g".as_slice()
-            && runs.as_slice() == [Run { first: 3, count: 1 }, Run { first: 9, count: 2 }].as_slice())
+        matches!(&step, Some(StepKind::Renamed(x)) if x.inode == 7 && x.path.as_slice() == b"/b".as_slice())
     );
     Ok(())
 }
 
 #[test]
-fn other_steps_of_files(rt: HostRuntime) -> Result<(), Fail> {
-    let alloc = rt.alloc();
+fn new_attributes(rt: HostRuntime) -> Result<(), Fail> {
+    let step = is_form(rt.alloc(), ATTRIBUTED)?;
+    let expected = AttributedStep {
+        inode: 7,
+        release: ReleaseKind::Partial,
+        partial: 8192,
+        stage: StageKind::Associative,
+    };
+    assert!(rt; matches!(&step, Some(StepKind::Attributed(x)) if *x == expected));
+    Ok(())
+}
+
+#[test]
+fn an_archive_run(rt: HostRuntime) -> Result<(), Fail> {
+    let Some(StepKind::CopyMade(made)) = is_form(rt.alloc(), COPY_MADE)? else {
+        return Err("another step")?;
+    };
+    let ends = [VolumeEnd {
+        volume: 4,
+        used: 1024,
+    }];
+    assert!(rt; made.set == 2 && made.copy == 1 && made.key.is_empty());
+    assert!(rt; made.members.len() == 1 && made.ends.as_slice() == ends.as_slice());
+    Ok(())
+}
+
+#[test]
+fn a_copy_to_be_made_again(rt: HostRuntime) -> Result<(), Fail> {
+    let step = is_form(rt.alloc(), REARCHIVE)?;
     assert!(rt;
-        matches!(
-            is_form(alloc, ACCESSED)?,
-            Some(StepKind::Accessed { inode: 7 })
-        )
-    );
-    assert!(rt;
-        matches!(
-            is_form(alloc, REMOVED)?,
-            Some(StepKind::Removed {
-                inode: 4_294_967_294
-            })
-        )
-    );
-    let renamed = is_form(alloc, RENAMED)?;
-    assert!(rt;
-        matches!(&renamed, Some(StepKind::Renamed(RenamedStep { inode: 7, path })) if path.as_slice() == b"/b".as_slice())
-    );
-    assert!(rt;
-        matches!(
-            is_form(alloc, ATTRIBUTED)?,
-            Some(StepKind::Attributed(AttributedStep {
-                inode: 7,
-                release: ReleaseKind::Partial,
-                partial: 8192,
-                stage: StageKind::Associative
-            }))
-        )
+        matches!(&step, Some(StepKind::Rearchive(x)) if *x == FileCopy { inode: 7, copy: 1 })
     );
     Ok(())
 }
 
 #[test]
-fn steps_of_copies(rt: HostRuntime) -> Result<(), Fail> {
-    let alloc = rt.alloc();
-    let made = is_form(alloc, COPY_MADE)?;
+fn a_copy_given_up(rt: HostRuntime) -> Result<(), Fail> {
+    let step = is_form(rt.alloc(), UNARCHIVED)?;
     assert!(rt;
-        matches!(&made, Some(StepKind::CopyMade(CopyMadeStep { set: 2, copy: 1, key, members, ends }))
-        if key.is_empty() && members.len() == 1 && ends.as_slice() == [VolumeEnd { volume: 4, used: 1024 }].as_slice())
-    );
-    assert!(rt;
-        matches!(
-            is_form(alloc, REARCHIVE)?,
-            Some(StepKind::Rearchive(FileCopy { inode: 7, copy: 1 }))
-        )
-    );
-    assert!(rt;
-        matches!(
-            is_form(alloc, UNARCHIVED)?,
-            Some(StepKind::Unarchived(FileCopy { inode: 7, copy: 4 }))
-        )
-    );
-    assert!(rt;
-        matches!(
-            is_form(alloc, RELEASED)?,
-            Some(StepKind::Released(ReleasedStep {
-                inode: 7,
-                cached: 16_384
-            }))
-        )
-    );
-    let wanted = is_form(alloc, WANTED)?;
-    assert!(rt;
-        matches!(&wanted, Some(StepKind::Wanted { inodes }) if inodes.as_slice() == [8, 7].as_slice())
-    );
-    let staged = is_form(alloc, STAGED)?;
-    assert!(rt;
-        matches!(&staged, Some(StepKind::Staged(StagedStep { inode: 7, copy: 2, runs })) if runs.as_slice() == [Run { first: 6, count: 4 }].as_slice())
-    );
-    assert!(rt;
-        matches!(
-            is_form(alloc, STAGE_FAILED)?,
-            Some(StepKind::StageFailed { inode: 7 })
-        )
-    );
-    assert!(rt;
-        matches!(
-            is_form(alloc, DAMAGED)?,
-            Some(StepKind::Damaged(DamagedStep {
-                inode: 7,
-                copy: 3,
-                on: true
-            }))
-        )
+        matches!(&step, Some(StepKind::Unarchived(x)) if *x == FileCopy { inode: 7, copy: 4 })
     );
     Ok(())
 }
 
 #[test]
-fn steps_of_volumes(rt: HostRuntime) -> Result<(), Fail> {
-    let alloc = rt.alloc();
+fn a_release(rt: HostRuntime) -> Result<(), Fail> {
+    let step = is_form(rt.alloc(), RELEASED)?;
     assert!(rt;
-        matches!(
-            is_form(alloc, RECYCLING)?,
-            Some(StepKind::Recycling { volume: 258 })
-        )
+        matches!(&step, Some(StepKind::Released(x)) if *x == ReleasedStep { inode: 7, cached: 16_384 })
     );
+    Ok(())
+}
+
+#[test]
+fn wanted_files(rt: HostRuntime) -> Result<(), Fail> {
+    let step = is_form(rt.alloc(), WANTED)?;
     assert!(rt;
-        matches!(
-            is_form(alloc, RELABELLED)?,
-            Some(StepKind::Relabelled(RelabelledStep {
-                volume: 2,
-                label: 6
-            }))
-        )
+        matches!(&step, Some(StepKind::Wanted { inodes }) if inodes.as_slice() == [8, 7].as_slice())
     );
+    Ok(())
+}
+
+#[test]
+fn a_stage(rt: HostRuntime) -> Result<(), Fail> {
+    let Some(StepKind::Staged(staged)) = is_form(rt.alloc(), STAGED)? else {
+        return Err("another step")?;
+    };
+    let runs = [Run { first: 6, count: 4 }];
+    assert!(rt; staged.inode == 7 && staged.copy == 2 && staged.runs.as_slice() == runs.as_slice());
+    Ok(())
+}
+
+#[test]
+fn a_failed_stage(rt: HostRuntime) -> Result<(), Fail> {
+    let step = is_form(rt.alloc(), STAGE_FAILED)?;
+    assert!(rt; matches!(&step, Some(StepKind::StageFailed { inode }) if *inode == 7));
+    Ok(())
+}
+
+#[test]
+fn a_damaged_copy(rt: HostRuntime) -> Result<(), Fail> {
+    let step = is_form(rt.alloc(), DAMAGED)?;
     assert!(rt;
-        matches!(
-            is_form(alloc, FLAGGED)?,
-            Some(StepKind::Flagged(FlaggedStep {
-                volume: 2,
-                flag: Flag::Unavailable,
-                on: false
-            }))
-        )
+        matches!(&step, Some(StepKind::Damaged(x)) if *x == DamagedStep { inode: 7, copy: 3, on: true })
     );
+    Ok(())
+}
+
+#[test]
+fn a_volume_to_be_recycled(rt: HostRuntime) -> Result<(), Fail> {
+    let step = is_form(rt.alloc(), RECYCLING)?;
+    assert!(rt; matches!(&step, Some(StepKind::Recycling { volume }) if *volume == 258));
+    Ok(())
+}
+
+#[test]
+fn a_new_label(rt: HostRuntime) -> Result<(), Fail> {
+    let step = is_form(rt.alloc(), RELABELLED)?;
+    assert!(rt;
+        matches!(&step, Some(StepKind::Relabelled(x)) if *x == RelabelledStep { volume: 2, label: 6 })
+    );
+    Ok(())
+}
+
+#[test]
+fn a_flag(rt: HostRuntime) -> Result<(), Fail> {
+    let step = is_form(rt.alloc(), FLAGGED)?;
+    let expected = FlaggedStep {
+        volume: 2,
+        flag: Flag::Unavailable,
+        on: false,
+    };
+    assert!(rt; matches!(&step, Some(StepKind::Flagged(x)) if *x == expected));
     Ok(())
 }
 
