@@ -2,15 +2,21 @@
 
 ghost use Rattle.std.specs.Prelude.{◌≡◌, ◌+◌, ◌^◌, ◌<◌, ◌≤◌, length, vec_len, IfOk, IfSome};
 
-use std::alloc::Global;
+use std::alloc::{AllocError, Global};
 use std::fs::{File, Files, OpenOptions};
 use std::io::ErrorKind;
 use std::os::fd::AsRawFd;
-use std::os::unix::fs::FileExt;
+use std::os::unix::fs::{FileExt, MetadataExt, OpenOptionsExt};
 use std::{fs, io};
+
+/// The permissions of a file that is made: the owner reads and writes it.
+pub(crate) const FILE_MODE: u32 = 0o600;
 
 // How many files are kept open at most, those of spoiled areas aside.
 const KEPT_OPEN: usize = 32;
+
+// What the system calls a process's limit on the size of the files that it writes.
+const RLIMIT_FSIZE: i32 = 1;
 
 #[derive(Drop)]
 struct AreaFile {
@@ -20,6 +26,14 @@ struct AreaFile {
     // A sync of it failed. The system may have dropped what it could not write, and a later sync would not tell: so
     // none is tried.
     is_spoiled: bool,
+}
+
+// An area whose file was opened since the store was.
+#[derive(Clone, Copy)]
+struct SeenArea {
+    area: u32,
+    // What stood in it when it was first opened is on the medium. Where that sync failed, the file is not opened again.
+    is_settled: bool,
 }
 
 /// A folder with a file for each area that was written, named by the area's number in decimal.
@@ -32,7 +46,10 @@ pub(crate) struct AreaFiles<R> {
     // The folder's list of files may not have reached the medium.
     folder_is_due: bool,
     folder_is_spoiled: bool,
+    // The open files.
     files: Vec<AreaFile>,
+    // The areas of all files that are or were open.
+    seen: Vec<SeenArea>,
 }
 
 // Opens a file for reading and writing.
@@ -41,6 +58,7 @@ fn open_file<R: Files<File = File>>(rt: &R, path: &str, creates: bool) -> io::Re
         .read(true)
         .write(true)
         .create(creates)
+        .mode(FILE_MODE)
         .open(rt, path)
 }
 
@@ -50,6 +68,32 @@ fn settle(file: &File) -> io::Result<()> {
     file.sync_all()?;
     let _ = libc::posix_fadvise(file.as_raw_fd(), 0, 0, libc::POSIX_FADV_DONTNEED);
     Ok(())
+}
+
+// Whether a path leads to what is open here. Err where it leads nowhere.
+fn leads_to<R: Files<File = File>>(rt: &R, path: &str, opened: &File) -> io::Result<bool> {
+    let found = fs::metadata(rt, path)?;
+    let wanted = opened.metadata()?;
+    Ok(found.dev() == wanted.dev() && found.ino() == wanted.ino())
+}
+
+// Fails where a path does not lead to what is open here.
+fn check_leads_to<R: Files<File = File>>(rt: &R, path: &str, opened: &File) -> io::Result<()> {
+    if leads_to(rt, path, opened)? {
+        Ok(())
+    } else {
+        Err(ErrorKind::StaleNetworkFileHandle.into())
+    }
+}
+
+// Whether a write would reach beyond the limit on the size of files, at which the system ends the process by a signal.
+fn is_beyond_limit(place: u64, count: usize) -> bool {
+    let mut limit = libc::types::rlimit {
+        rlim_cur: 0,
+        rlim_max: 0,
+    };
+    libc::getrlimit(RLIMIT_FSIZE, &mut limit) == 0
+        && place.saturating_add(count as u64) > limit.rlim_cur
 }
 
 // Reads, with zeros past the file's end.
@@ -85,6 +129,7 @@ impl<R: Files<File = File> + Drop> AreaFiles<R> {
             folder_is_due: true,
             folder_is_spoiled: false,
             files: Vec::new(alloc),
+            seen: Vec::new(alloc),
         })
     }
 
@@ -101,6 +146,9 @@ impl<R: Files<File = File> + Drop> AreaFiles<R> {
     }
 
     pub(crate) fn write(&mut self, area: u32, place: u64, bytes: &[u8]) -> io::Result<()> {
+        if is_beyond_limit(place, bytes.len()) {
+            return Err(ErrorKind::FileTooLarge.into());
+        }
         let Some(i) = self.find(area, true)? else {
             return Err(ErrorKind::NotFound.into());
         };
@@ -112,8 +160,15 @@ impl<R: Files<File = File> + Drop> AreaFiles<R> {
         if let Some(i) = self.find(area, false)? {
             self.sync_open(i)?;
             self.sync_folder()?;
+            // What was synced is lost with the file where its name is gone.
+            let path = self.path_of(area)?;
+            check_leads_to(&self.rt, path.as_str(), &self.files[i].file)?;
         }
         Ok(())
+    }
+
+    fn path_of(&self, area: u32) -> Result<String, AllocError> {
+        format!(in self.alloc; "{}/{}", self.path, area)
     }
 
     // Where the area's file stands among the open ones; None where there is none, and none is to be made.
@@ -124,18 +179,8 @@ impl<R: Files<File = File> + Drop> AreaFiles<R> {
             return Ok(Some(i));
         }
         self.make_room()?;
-        let path = format!(in self.alloc; "{}/{}", self.path, area)?;
-        let file = match open_file(&self.rt, path.as_str(), false) {
-            Ok(file) => {
-                settle(&file)?;
-                file
-            }
-            Err(e) if e.kind() == ErrorKind::NotFound && creates => {
-                self.folder_is_due = true;
-                open_file(&self.rt, path.as_str(), true)?
-            }
-            Err(e) if e.kind() == ErrorKind::NotFound => return Ok(None),
-            Err(e) => return Err(e),
+        let Some(file) = self.open_area(area, creates)? else {
+            return Ok(None);
         };
         self.files.push(AreaFile {
             area,
@@ -144,6 +189,55 @@ impl<R: Files<File = File> + Drop> AreaFiles<R> {
             is_spoiled: false,
         })?;
         Ok(Some(self.files.len() - 1))
+    }
+
+    // Opens the area's file; None where there is none, and none is to be made.
+    fn open_area(&mut self, area: u32, creates: bool) -> io::Result<Option<File>> {
+        let path = self.path_of(area)?;
+        if let Some(seen) = self.seen.iter().find(|s| s.area == area) {
+            if !seen.is_settled {
+                return Err(ErrorKind::Other.into());
+            }
+            return Ok(Some(open_file(&self.rt, path.as_str(), false)?));
+        }
+        match open_file(&self.rt, path.as_str(), false) {
+            Ok(file) => {
+                self.settle_first(area, &file)?;
+                Ok(Some(file))
+            }
+            Err(e) if e.kind() != ErrorKind::NotFound => Err(e),
+            Err(_) if creates => Ok(Some(self.make_file(area, path.as_str())?)),
+            Err(_) => {
+                // In another folder the area's file is missing, and yet not absent.
+                check_leads_to(&self.rt, self.path.as_str(), &self.folder)?;
+                Ok(None)
+            }
+        }
+    }
+
+    // Settles a file that is opened for the first time.
+    fn settle_first(&mut self, area: u32, file: &File) -> io::Result<()> {
+        self.seen.push(SeenArea {
+            area,
+            is_settled: false,
+        })?;
+        settle(file)?;
+        if let Some(seen) = self.seen.last_mut() {
+            seen.is_settled = true;
+        }
+        Ok(())
+    }
+
+    // Makes the file of an area that has none.
+    fn make_file(&mut self, area: u32, path: &str) -> io::Result<File> {
+        check_leads_to(&self.rt, self.path.as_str(), &self.folder)?;
+        self.folder_is_due = true;
+        let file = open_file(&self.rt, path, true)?;
+        self.seen.push(SeenArea {
+            area,
+            is_settled: true,
+        })?;
+        Ok(file)
     }
 
     // Closes a file where too many are open, and never that of the journal or the cache.
@@ -176,7 +270,9 @@ impl<R: Files<File = File> + Drop> AreaFiles<R> {
         Ok(())
     }
 
-    fn sync_folder(&mut self) -> io::Result<()> {
+    fn sync_folder(&mut self) -> io::Result<()>
+        ensures { vec_len self.new.files ≡ vec_len self.old.files }
+    {
         if self.folder_is_spoiled {
             return Err(ErrorKind::Other.into());
         }
