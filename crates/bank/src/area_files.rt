@@ -2,8 +2,8 @@
 
 ghost use Rattle.std.specs.Prelude.{◌≡◌, ◌+◌, ◌^◌, ◌<◌, ◌≤◌, length, vec_len, IfOk, IfSome};
 
-use std::alloc::{AllocError, Global};
-use std::fs::{File, Files, OpenOptions};
+use std::alloc::Global;
+use std::fs::{File, Files, Metadata, OpenOptions};
 use std::io::ErrorKind;
 use std::os::fd::AsRawFd;
 use std::os::unix::fs::{FileExt, MetadataExt, OpenOptionsExt};
@@ -18,10 +18,28 @@ const KEPT_OPEN: usize = 32;
 // What the system calls a process's limit on the size of the files that it writes.
 const RLIMIT_FSIZE: i32 = 1;
 
+// What the system knows a file or a folder by, whatever path leads to it.
+#[derive(Clone, Copy, PartialEq, Eq)]
+struct Identity {
+    device: u64,
+    inode: u64,
+}
+
+impl Identity {
+    fn of(found: &Metadata) -> Self {
+        Identity {
+            device: found.dev(),
+            inode: found.ino(),
+        }
+    }
+}
+
 #[derive(Drop)]
 struct AreaFile {
     area: u32,
+    path: String,
     file: File,
+    identity: Identity,
     has_unsynced: bool,
     // A sync of it failed. The system may have dropped what it could not write, and a later sync would not tell: so
     // none is tried.
@@ -43,6 +61,7 @@ pub(crate) struct AreaFiles<R> {
     alloc: Global,
     path: String,
     folder: File,
+    folder_identity: Identity,
     // The folder's list of files may not have reached the medium.
     folder_is_due: bool,
     folder_is_spoiled: bool,
@@ -70,16 +89,9 @@ fn settle(file: &File) -> io::Result<()> {
     Ok(())
 }
 
-// Whether a path leads to what is open here. Err where it leads nowhere.
-fn leads_to<R: Files<File = File>>(rt: &R, path: &str, opened: &File) -> io::Result<bool> {
-    let found = fs::metadata(rt, path)?;
-    let wanted = opened.metadata()?;
-    Ok(found.dev() == wanted.dev() && found.ino() == wanted.ino())
-}
-
-// Fails where a path does not lead to what is open here.
-fn check_leads_to<R: Files<File = File>>(rt: &R, path: &str, opened: &File) -> io::Result<()> {
-    if leads_to(rt, path, opened)? {
+// Fails where a path does not lead to what was opened by it.
+fn check_leads_to<R: Files>(rt: &R, path: &str, opened: Identity) -> io::Result<()> {
+    if Identity::of(&fs::metadata(rt, path)?) == opened {
         Ok(())
     } else {
         Err(ErrorKind::StaleNetworkFileHandle.into())
@@ -121,11 +133,13 @@ fn read_padded(file: &File, place: u64, into: &mut [u8]) -> io::Result<()>
 impl<R: Files<File = File> + Drop> AreaFiles<R> {
     pub(crate) fn new(rt: R, alloc: Global, path: String) -> io::Result<Self> {
         let folder = fs::open(&rt, path.as_str())?;
+        let folder_identity = Identity::of(&folder.metadata()?);
         Ok(AreaFiles {
             rt,
             alloc,
             path,
             folder,
+            folder_identity,
             folder_is_due: true,
             folder_is_spoiled: false,
             files: Vec::new(alloc),
@@ -161,14 +175,10 @@ impl<R: Files<File = File> + Drop> AreaFiles<R> {
             self.sync_open(i)?;
             self.sync_folder()?;
             // What was synced is lost with the file where its name is gone.
-            let path = self.path_of(area)?;
-            check_leads_to(&self.rt, path.as_str(), &self.files[i].file)?;
+            let opened = &self.files[i];
+            check_leads_to(&self.rt, opened.path.as_str(), opened.identity)?;
         }
         Ok(())
-    }
-
-    fn path_of(&self, area: u32) -> Result<String, AllocError> {
-        format!(in self.alloc; "{}/{}", self.path, area)
     }
 
     // Where the area's file stands among the open ones; None where there is none, and none is to be made.
@@ -179,12 +189,16 @@ impl<R: Files<File = File> + Drop> AreaFiles<R> {
             return Ok(Some(i));
         }
         self.make_room()?;
-        let Some(file) = self.open_area(area, creates)? else {
+        let path = format!(in self.alloc; "{}/{}", self.path, area)?;
+        let Some(file) = self.open_area(area, path.as_str(), creates)? else {
             return Ok(None);
         };
+        let identity = Identity::of(&file.metadata()?);
         self.files.push(AreaFile {
             area,
+            path,
             file,
+            identity,
             has_unsynced: false,
             is_spoiled: false,
         })?;
@@ -192,26 +206,24 @@ impl<R: Files<File = File> + Drop> AreaFiles<R> {
     }
 
     // Opens the area's file; None where there is none, and none is to be made.
-    fn open_area(&mut self, area: u32, creates: bool) -> io::Result<Option<File>> {
-        let path = self.path_of(area)?;
+    fn open_area(&mut self, area: u32, path: &str, creates: bool) -> io::Result<Option<File>> {
         if let Some(seen) = self.seen.iter().find(|s| s.area == area) {
             if !seen.is_settled {
                 return Err(ErrorKind::Other.into());
             }
-            return Ok(Some(open_file(&self.rt, path.as_str(), false)?));
+            return Ok(Some(open_file(&self.rt, path, false)?));
         }
-        match open_file(&self.rt, path.as_str(), false) {
+        let opened = open_file(&self.rt, path, false);
+        // In another folder the area's file is another one, or is missing and yet not absent.
+        check_leads_to(&self.rt, self.path.as_str(), self.folder_identity)?;
+        match opened {
             Ok(file) => {
                 self.settle_first(area, &file)?;
                 Ok(Some(file))
             }
             Err(e) if e.kind() != ErrorKind::NotFound => Err(e),
-            Err(_) if creates => Ok(Some(self.make_file(area, path.as_str())?)),
-            Err(_) => {
-                // In another folder the area's file is missing, and yet not absent.
-                check_leads_to(&self.rt, self.path.as_str(), &self.folder)?;
-                Ok(None)
-            }
+            Err(_) if creates => Ok(Some(self.make_file(area, path)?)),
+            Err(_) => Ok(None),
         }
     }
 
@@ -230,7 +242,6 @@ impl<R: Files<File = File> + Drop> AreaFiles<R> {
 
     // Makes the file of an area that has none.
     fn make_file(&mut self, area: u32, path: &str) -> io::Result<File> {
-        check_leads_to(&self.rt, self.path.as_str(), &self.folder)?;
         self.folder_is_due = true;
         let file = open_file(&self.rt, path, true)?;
         self.seen.push(SeenArea {
