@@ -69,6 +69,8 @@ pub(crate) struct AreaFiles<R> {
     files: Vec<AreaFile>,
     // The areas of all files that are or were open.
     seen: Vec<SeenArea>,
+    // The limit on the size in bytes of a file, as it was last asked for.
+    size_limit: u64,
 }
 
 // Opens a file for reading and writing.
@@ -98,14 +100,14 @@ fn check_leads_to<R: Files>(rt: &R, path: &str, opened: Identity) -> io::Result<
     }
 }
 
-// Whether a write would reach beyond the limit on the size of files, at which the system ends the process by a signal.
-fn is_beyond_limit(place: u64, count: usize) -> bool {
+// The limit on the size in bytes of the files that this process writes; the greatest number where there is none.
+fn file_size_limit() -> u64 {
     let mut limit = libc::types::rlimit {
-        rlim_cur: 0,
-        rlim_max: 0,
+        rlim_cur: u64::MAX,
+        rlim_max: u64::MAX,
     };
-    libc::getrlimit(RLIMIT_FSIZE, &mut limit) == 0
-        && place.saturating_add(count as u64) > limit.rlim_cur
+    libc::getrlimit(RLIMIT_FSIZE, &mut limit);
+    limit.rlim_cur
 }
 
 // Reads, with zeros past the file's end.
@@ -144,6 +146,7 @@ impl<R: Files<File = File> + Drop> AreaFiles<R> {
             folder_is_spoiled: false,
             files: Vec::new(alloc),
             seen: Vec::new(alloc),
+            size_limit: file_size_limit(),
         })
     }
 
@@ -160,9 +163,7 @@ impl<R: Files<File = File> + Drop> AreaFiles<R> {
     }
 
     pub(crate) fn write(&mut self, area: u32, place: u64, bytes: &[u8]) -> io::Result<()> {
-        if is_beyond_limit(place, bytes.len()) {
-            return Err(ErrorKind::FileTooLarge.into());
-        }
+        self.check_limit(place, bytes.len())?;
         let Some(i) = self.find(area, true)? else {
             return Err(ErrorKind::NotFound.into());
         };
@@ -177,6 +178,19 @@ impl<R: Files<File = File> + Drop> AreaFiles<R> {
             // What was synced is lost with the file where its name is gone.
             let opened = &self.files[i];
             check_leads_to(&self.rt, opened.path.as_str(), opened.identity)?;
+        }
+        Ok(())
+    }
+
+    // Fails where a write would reach beyond the limit on the size of files, at which the system would end the process by a
+    // signal.
+    fn check_limit(&mut self, place: u64, count: usize) -> io::Result<()> {
+        let end = place.saturating_add(count as u64);
+        if end > self.size_limit {
+            self.size_limit = file_size_limit();
+        }
+        if end > self.size_limit {
+            return Err(ErrorKind::FileTooLarge.into());
         }
         Ok(())
     }
