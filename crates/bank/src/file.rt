@@ -5,11 +5,12 @@ ghost use Rattle.base.specs.Causes.{HasCause};
 ghost use Rattle.bank.specs.View.{untold};
 ghost use Rattle.bank.specs.declared.file.FileBankRefusal.TheVariants.{NoMemory};
 
-use crate::area_files::AreaFiles;
+use crate::area_files::{AreaFiles, FILE_MODE};
 use crate::bank::{Bank, BankFailed};
 use std::alloc::{AllocError, Global};
 use std::fs::{File, Files, OpenOptions, TryLockError};
 use std::io;
+use std::os::unix::fs::OpenOptionsExt;
 
 /// Why a folder was not opened as a store.
 #[derive(Clone, Copy, Debug, PartialEq, Eq)]
@@ -33,7 +34,8 @@ impl From<AllocError> for FileBankRefusal {
 /// file gives back what was written to it, and that a sync brings it to the medium, is the system's word.
 ///
 /// An area is a file named by its number in decimal, and zeros stand past the end of a file. The file `lock` carries
-/// the lock.
+/// the lock. Files are made for the owner alone. An area's file that was opened once and is not found later is a fault, and a
+/// write that would reach beyond the process's limit on the size of files is one too.
 #[derive(Drop)]
 pub struct FileBank<R> {
     areas: AreaFiles<R>,
@@ -52,6 +54,7 @@ impl<R: Files<File = File> + Drop> FileBank<R> {
             .read(true)
             .write(true)
             .create(true)
+            .mode(FILE_MODE)
             .open(&rt, path.as_str());
         let Ok(lock) = opened else {
             return Err(FileBankRefusal::Failed);
