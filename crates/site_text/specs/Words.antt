@@ -1,6 +1,6 @@
 -- Words and what they stand for.
 use Rattle.std.specs.Prelude.{List, [], ◌∷◌, Option, Some, None, Bool, ◌==◌, if◌then◌else◌, slice_index}
-use Rattle.std.specs.Str.{bytes_eq}
+use Rattle.std.specs.Str.{byte, bytes_eq}
 use Rattle.site_text.specs.declared.fault.ConfFault.{ConfFault}
 use Rattle.site_text.specs.declared.fault.ConfFault.TheVariants.{UnknownDirective, ExtraField, BadValue}
 use Rattle.site_text.specs.Fields.{Field, Read, wanted}
@@ -12,7 +12,7 @@ named (entry ∷ entries) word = if bytes_eq word entry.0 then Some entry.1 else
 
 -- it begins with `-`
 abbrev pub is_option : Field → Bool
-is_option field = slice_index field 0 == 45
+is_option field = slice_index field 0 == byte "-"
 
 -- what is wrong with a field that is none of the options that may stand there
 abbrev pub no_option : Field → ConfFault
