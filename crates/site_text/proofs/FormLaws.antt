@@ -1,5 +1,5 @@
 -- What is read from the left by a form is what the form means, both ways.
-use Rattle.std.proofs.Common.{◌≡◌, ◌≢◌, ◌==◌, false, length, ℕ, List, [], ◌∷◌, Option, Some, None, Ok, Err, refl, sym, subst, ◌∙◌, inl, inr}
+use Rattle.std.proofs.Common.{◌≡◌, ◌≢◌, ◌==◌, false, length, ℕ, List, [], ◌∷◌, Option, Some, None, Ok, Err, refl, sym, ap, subst, ◌∙◌, inl, inr}
 use Rattle.std.proofs.Math.Dec.{eqb-suc-zero}
 use Rattle.site_text.specs.declared.fault.ConfFault.{ConfFault}
 use Rattle.site_text.specs.declared.fault.ConfFault.TheVariants.{UnknownDirective, MissingField}
@@ -11,7 +11,7 @@ use Rattle.site_text.specs.FormRules.{FormSays, FormWrong}
 use Rattle.site_text.specs.FormSteps.{read_form}
 use Rattle.site_text.specs.Directives.{FormTable}
 use Rattle.site_text.specs.DirectiveRules.{Begins, BeginsWrong, DirectiveSays, DirectiveWrong}
-use Rattle.site_text.specs.DirectiveSteps.{form_at, read_directive}
+use Rattle.site_text.specs.DirectiveSteps.{Lookup, form_by, read_by, read_directive}
 
 -- ---- from reading to meaning
 
@@ -73,18 +73,18 @@ abbrev begun : {R : Type 0} → List Field → Form R → Read (Form R × List F
 begun fields form = Ok (form, fields)
 
 at_word : {R : Type 0} (names words : FormTable R) (f : Field) (fs : List Field) → value_line (f ∷ fs) ≡ None
-    → form_at names words (f ∷ fs) ≡ (wanted (named words f) UnknownDirective >>= begun fs)
-unfolding form_at
+    → form_by (named names) (named words) (f ∷ fs) ≡ (wanted (named words f) UnknownDirective >>= begun fs)
+unfolding form_by
 at_word names words f fs line = rw line refl
 
 at_nothing : {R : Type 0} (names words : FormTable R) (f : Field) (fs values : List Field) → value_line (f ∷ fs) ≡ Some ([], values)
-    → form_at names words (f ∷ fs) ≡ Err MissingField
-unfolding form_at
+    → form_by (named names) (named words) (f ∷ fs) ≡ Err MissingField
+unfolding form_by
 at_nothing names words f fs values line = rw line refl
 
 at_name : {R : Type 0} (names words : FormTable R) (f : Field) (fs : List Field) (b : ℕ) (bs : List ℕ) (values : List Field) → value_line (f ∷ fs) ≡ Some (b ∷ bs, values)
-    → form_at names words (f ∷ fs) ≡ (wanted (named names (b ∷ bs)) UnknownDirective >>= begun values)
-unfolding form_at
+    → form_by (named names) (named words) (f ∷ fs) ≡ (wanted (named names (b ∷ bs)) UnknownDirective >>= begun values)
+unfolding form_by
 at_name names words f fs b bs values line =
     let some : (length (b ∷ bs) == 0) ≡ false = eqb-suc-zero (length bs) in
     rw (line, some) refl
@@ -107,7 +107,7 @@ name_begins names words fields b bs values (Some form) line is = inl (b ∷ bs, 
 name_begins names words fields b bs values None line is = inl (b ∷ bs, values, line, not_empty b bs, is)
 
 line_begins : {R : Type 0} (names words : FormTable R) (f : Field) (fs : List Field) (line : Option (Field × List Field)) → value_line (f ∷ fs) ≡ line
-    → JudgesBegin names words (f ∷ fs) (form_at names words (f ∷ fs))
+    → JudgesBegin names words (f ∷ fs) (form_by (named names) (named words) (f ∷ fs))
 line_begins names words f fs None is =
     subst (JudgesBegin names words (f ∷ fs)) (sym (at_word names words f fs is)) (word_begins names words f fs (named words f) is refl)
 line_begins names words f fs (Some ([], values)) is =
@@ -116,14 +116,14 @@ line_begins names words f fs (Some (b ∷ bs, values)) is =
     subst (JudgesBegin names words (f ∷ fs)) (sym (at_name names words f fs b bs values is))
     (name_begins names words (f ∷ fs) b bs values (named names (b ∷ bs)) is refl)
 
-begins : {R : Type 0} (names words : FormTable R) (fields : List Field) → JudgesBegin names words fields (form_at names words fields)
-unfolding form_at
+begins : {R : Type 0} (names words : FormTable R) (fields : List Field) → JudgesBegin names words fields (form_by (named names) (named words) fields)
+unfolding form_by
 begins names words [] = inl refl
 begins names words (f ∷ fs) = line_begins names words f fs (value_line (f ∷ fs)) refl
 
 -- and back
 begun_read : {R : Type 0} (names words : FormTable R) (fields : List Field) (form : Form R) (values : List Field) → Begins names words fields form values
-    → form_at names words fields ≡ Ok (form, values)
+    → form_by (named names) (named words) fields ≡ Ok (form, values)
 begun_read names words [] form values (inl (name, line, there, is)) = (let h = no_line in absurd cc)
 begun_read names words [] form values (inr (word, line, shape, is)) = absurd cc
 begun_read names words (f ∷ fs) form values (inl ([], line, there, is)) = absurd (there refl)
@@ -134,8 +134,8 @@ begun_read names words (f ∷ fs) form values (inr (word, line, shape, is)) =
     at_word names words f fs line ∙ rw (first, is, others) refl
 
 wrong_read : {R : Type 0} (names words : FormTable R) (fields : List Field) (fault : ConfFault) → BeginsWrong names words fields fault
-    → form_at names words fields ≡ Err fault
-unfolding form_at
+    → form_by (named names) (named words) fields ≡ Err fault
+unfolding form_by
 wrong_read names words [] MissingField wrong = refl
 wrong_read names words (f ∷ fs) MissingField (inl none) = absurd cc
 wrong_read names words (f ∷ fs) MissingField (inr (values, line)) = at_nothing names words f fs values line
@@ -165,7 +165,7 @@ from_begin names words fields (Ok x) is = behind_begin names words fields x.0 x.
 from_begin names words fields (Err fault) wrong = inl wrong
 
 directive : {R : Type 0} (names words : FormTable R) (fields : List Field) → JudgesDirective names words fields (read_directive names words fields)
-directive names words fields = from_begin names words fields (form_at names words fields) (begins names words fields)
+directive names words fields = from_begin names words fields (form_by (named names) (named words) fields) (begins names words fields)
 
 pub directive_said : {R : Type 0} (names words : FormTable R) (fields : List Field) (said : R) → read_directive names words fields ≡ Ok said → DirectiveSays names words fields said
 directive_said names words fields said is = subst (JudgesDirective names words fields) is (directive names words fields)
@@ -180,6 +180,28 @@ directive_read names words fields said says =
 pub directive_refused : {R : Type 0} (names words : FormTable R) (fields : List Field) (fault : ConfFault) → DirectiveWrong names words fields fault → read_directive names words fields ≡ Err fault
 directive_refused names words fields fault (inl wrong) = rw (wrong_read names words fields fault wrong) refl
 directive_refused names words fields fault (inr (form, values, is, wrong)) = rw (begun_read names words fields form values is) (form_refused form values fault wrong)
+
+-- ---- other ways to look names and words up
+
+-- reading a line by lookups that find the same is the same
+at_same_line : {R : Type 0} (names words names' words' : Lookup R) → ((name : Field) → names name ≡ names' name) → ((word : Field) → words word ≡ words' word)
+    → (f : Field) (fs : List Field) (line : Option (Field × List Field)) → value_line (f ∷ fs) ≡ line → form_by names words (f ∷ fs) ≡ form_by names' words' (f ∷ fs)
+unfolding form_by
+at_same_line names words names' words' same_names same_words f fs None is = rw (is, same_words f) refl
+at_same_line names words names' words' same_names same_words f fs (Some (name, values)) is = rw (is, same_names name) refl
+
+at_same_form : {R : Type 0} (names words names' words' : Lookup R) → ((name : Field) → names name ≡ names' name) → ((word : Field) → words word ≡ words' word)
+    → (fields : List Field) → form_by names words fields ≡ form_by names' words' fields
+unfolding form_by
+at_same_form names words names' words' same_names same_words [] = refl
+at_same_form names words names' words' same_names same_words (f ∷ fs) = at_same_line names words names' words' same_names same_words f fs (value_line (f ∷ fs)) refl
+
+abbrev read_from : {R : Type 0} → Read (Form R × List Field) → Read R
+read_from read = read >>= λ x. read_form x.0 x.1
+
+pub read_same : {R : Type 0} (names words names' words' : Lookup R) → ((name : Field) → names name ≡ names' name) → ((word : Field) → words word ≡ words' word)
+    → (fields : List Field) → read_by names words fields ≡ read_by names' words' fields
+read_same names words names' words' same_names same_words fields = ap read_from (at_same_form names words names' words' same_names same_words fields)
 
 -- ---- fields of which none is kept
 

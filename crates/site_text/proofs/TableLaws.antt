@@ -1,14 +1,10 @@
 -- A table whose entries stand for something, looked up by the words that stand for them in the code.
-use Rattle.std.proofs.Common.{◌≡◌, Bool, true, false, cond, List, [], ◌∷◌, map, Option, Some, None, refl, ap, ◌∙◌}
+use Rattle.std.proofs.Common.{◌≡◌, Bool, true, false, cond, List, [], ◌∷◌, Option, Some, None, refl, ap, ◌∙◌}
 use Rattle.std.specs.Prelude.{option_map}
 use Rattle.std.specs.Str.{bytes_eq}
 use Rattle.site_text.specs.Fields.{Field, map_read, wanted}
 use Rattle.site_text.specs.declared.fault.ConfFault.{ConfFault}
-use Rattle.site_text.specs.Words.{named, option_named, no_option}
-
--- a table with what its words stand for
-abbrev pub standing_for : {D E : Type 0} → (D → E) → List (Field × D) → List (Field × E)
-standing_for meaning table = map (λ entry. (entry.0, meaning entry.1)) table
+use Rattle.site_text.specs.Words.{named, standing_for, option_named, no_option}
 
 by_first : {D E : Type 0} (meaning : D → E) (d : D) (rest : Option E) (others : Option D) (b : Bool) → rest ≡ option_map meaning others → cond b (Some (meaning d)) rest ≡ option_map meaning (cond b (Some d) others)
 by_first meaning d rest others true is = refl

@@ -8,18 +8,23 @@ use Rattle.site_text.specs.Forms.{Form}
 use Rattle.site_text.specs.FormSteps.{read_form}
 use Rattle.site_text.specs.Directives.{FormTable}
 
--- the form of a name in a table
-abbrev pub form_named : {R : Type 0} → FormTable R → Field → Read (Form R)
-form_named table name = wanted (named table name) UnknownDirective
+-- how names and words are looked up
+abbrev pub Lookup : Type 0 → Type 0
+Lookup R = Field → Option (Form R)
 
 -- the form of a line, and the fields that are to be of that form
-unfoldable pub form_at : {R : Type 0} → FormTable R → FormTable R → List Field → Read (Form R × List Field)
-form_at names words [] = Err MissingField
-form_at {R} names words (field ∷ fields) = by_line (value_line (field ∷ fields))
+unfoldable pub form_by : {R : Type 0} → Lookup R → Lookup R → List Field → Read (Form R × List Field)
+form_by names words [] = Err MissingField
+form_by {R} names words (field ∷ fields) = by_line (value_line (field ∷ fields))
   where
     by_line : Option (Field × List Field) → Read (Form R × List Field)
-    by_line None = form_named words field >>= λ form. Ok (form, fields)
-    by_line (Some line) = if length line.0 == 0 then Err MissingField else (form_named names line.0 >>= λ form. Ok (form, line.1))
+    by_line None = wanted (words field) UnknownDirective >>= λ form. Ok (form, fields)
+    by_line (Some line) = if length line.0 == 0 then Err MissingField else (wanted (names line.0) UnknownDirective >>= λ form. Ok (form, line.1))
 
+-- reading a line by two lookups, as the code does by words of its own
+abbrev pub read_by : {R : Type 0} → Lookup R → Lookup R → List Field → Read R
+read_by names words fields = form_by names words fields >>= λ x. read_form x.0 x.1
+
+-- reading a line by the tables of names and words
 abbrev pub read_directive : {R : Type 0} → FormTable R → FormTable R → List Field → Read R
-read_directive names words fields = form_at names words fields >>= λ x. read_form x.0 x.1
+read_directive names words fields = read_by (named names) (named words) fields
