@@ -1,0 +1,16 @@
+pub mod BarRules
+pub mod BarSteps
+pub mod BarLaws
+pub mod SiteTold
+pub mod SiteRules
+pub mod SiteSteps
+pub mod StagerTold
+pub mod StagerRules
+pub mod StagerSteps
+pub mod ReleaserTold
+pub mod ReleaserRules
+pub mod ReleaserSteps
+pub mod RecyclerTold
+pub mod RecyclerRules
+pub mod RecyclerSteps
+pub mod RecyclerLaws
