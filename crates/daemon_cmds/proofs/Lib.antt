@@ -6,5 +6,6 @@ mod StagerKnown
 mod ReleaserKnown
 mod RecyclerKnown
 mod CopyNumbers
+mod CopyOrder
 pub mod CacheRange
 mod KnownLibraries

@@ -1,5 +1,5 @@
 -- What a line of stager.cmd says, and what is wrong with one, in a site.
-use Rattle.std.specs.Prelude.{◌==◌, not, ℕ, List, [], ◌∷◌, ◌++◌, ◌^◌, codes, Ok, Bool, ◌&&◌, nat_le, count_by, if◌then◌else◌}
+use Rattle.std.specs.Prelude.{◌==◌, not, ℕ, List, [], ◌∷◌, ◌++◌, ◌^◌, codes, Ok, Bool, ◌&&◌, nat_le, count_by, filter}
 use Rattle.std.specs.List.{list_any, slice_split}
 use Rattle.std.specs.Str.{byte}
 use Rattle.site_text.specs.declared.fault.ConfFault.{ConfFault}
@@ -45,13 +45,12 @@ at_most_once n copies = nat_le (count_by (λ c. c == n) copies) 1
 unfoldable pub none_twice : List ℕ → Bool
 none_twice copies = at_most_once 1 copies && at_most_once 2 copies && at_most_once 3 copies && at_most_once 4 copies
 
--- a copy that is not named follows
-abbrev pub with_copy : List ℕ → ℕ → List ℕ
-with_copy copies n = if list_any (λ c. c == n) copies then copies else copies ++ n ∷ []
+abbrev pub is_named : List ℕ → ℕ → Bool
+is_named copies n = list_any (λ c. c == n) copies
 
 -- those that are not named follow in order
 unfoldable pub completed : List ℕ → List ℕ
-completed copies = with_copy (with_copy (with_copy (with_copy copies 1) 2) 3) 4
+completed copies = copies ++ filter (λ n. not (is_named copies n)) (1 ∷ 2 ∷ 3 ∷ 4 ∷ [])
 
 -- the order of copies that `A:B:..` says
 unfoldable pub copysel_value : Field → Read (List ℕ)

@@ -1,5 +1,5 @@
 -- Reading a line of stager.cmd in steps, by what the code keeps of the lines before it.
-use Rattle.std.specs.Prelude.{List, [], ◌∷◌, ◌^◌, codes, None, option_map, slice_set}
+use Rattle.std.specs.Prelude.{ℕ, List, [], ◌∷◌, ◌++◌, ◌^◌, if◌then◌else◌, codes, None, option_map, slice_set}
 use Rattle.site_text.specs.declared.line.Line.{Line}
 use Rattle.site_text.specs.Fields.{Field, Read}
 use Rattle.site_text.specs.Words.{named}
@@ -14,11 +14,15 @@ use Rattle.daemon_cmds.specs.declared.stager_conf.StagerReading.{StagerReading}
 use Rattle.daemon_cmds.specs.declared.stager_conf.StagerReading.TheVariants as readings
 use Rattle.daemon_cmds.specs.declared.stager_lines.StagerDirective.{StagerDirective}
 use Rattle.daemon_cmds.specs.declared.stager_lines.StagerDirective.TheVariants.{Drives, MaxActive, CopySel, Ignored}
-use Rattle.daemon_cmds.specs.StagerRules.{copysel_value, drives_form, stager_forms}
+use Rattle.daemon_cmds.specs.StagerRules.{is_named, copysel_value, drives_form, stager_forms}
 
 -- reading a line by the table
 abbrev pub stager_line : SiteConf → List StagerReading → Line → Read StagerReading
 stager_line site before line = read_directive (stager_forms site.libraries) no_words line.fields
+
+-- a copy that is not named follows
+abbrev pub with_copy : List ℕ → ℕ → List ℕ
+with_copy copies n = if is_named copies n then copies else copies ++ n ∷ []
 
 -- one line more
 abbrev pub with_stager_reading : StagerConf → StagerReading → StagerConf

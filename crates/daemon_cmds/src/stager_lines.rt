@@ -4,8 +4,8 @@ ghost use Rattle.std.specs.Prelude.{◌≡◌, ◌<◌, length, position, IfSome
 ghost use Rattle.site_text.specs.Fields.{Gives};
 ghost use Rattle.site_text.specs.Words.{named};
 ghost use Rattle.site_text.specs.FormSteps.{read_form};
-ghost use Rattle.daemon_cmds.specs.StagerRules.{library_value, is_colon, copy_number, copy_numbers, at_most_once, none_twice, with_copy, completed, copysel_value};
-ghost use Rattle.daemon_cmds.specs.StagerSteps.{stager_words, form_of, line_by_words};
+ghost use Rattle.daemon_cmds.specs.StagerRules.{library_value, is_colon, copy_number, copy_numbers, at_most_once, none_twice, completed, copysel_value};
+ghost use Rattle.daemon_cmds.specs.StagerSteps.{stager_words, with_copy, form_of, line_by_words};
 ghost use Rattle.daemon_cmds.specs.declared.stager_lines.StagerDirective.TheVariants as directives;
 
 use crate::site_conf::Library;
@@ -116,7 +116,7 @@ fn add_copy(copies: &mut List<u8>, copy: u8) -> Result<(), AllocError>
 }
 
 /// Puts those of 1 to 4 that are not there behind the others, in order.
-#[tactic(auto, unfolding(crate::specs::StagerRules::completed))]
+#[tactic(auto, using(crate::proofs::CopyOrder::all_put))]
 fn complete(copies: &mut List<u8>) -> Result<(), AllocError>
     ensures { OnOk result (copies.new ≡ completed copies.old) }
 {
