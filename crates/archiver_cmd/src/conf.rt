@@ -121,7 +121,7 @@ fn set_conf(alloc: Global, copies: &[SetCopy], name: &[u8]) -> Result<SetConf, A
     Ok(SetConf { name, copies })
 }
 
-pub fn set_confs(
+fn set_confs(
     alloc: Global,
     copies: &[SetCopy],
     names: &[Bytes],
@@ -193,7 +193,7 @@ fn add_group(
 }
 
 /// The names of some vsns lines, each with the expressions of its lines.
-pub fn groups_of(alloc: Global, lines: &[VsnsLine]) -> Result<List<VsnsGroup>, AllocError>
+fn groups_of(alloc: Global, lines: &[VsnsLine]) -> Result<List<VsnsGroup>, AllocError>
     ensures { IfOk result (λ groups. AreGroups lines.now groups) }
 {
     let mut groups = List::new(alloc);

@@ -4,7 +4,9 @@ use Rattle.site_text.specs.Fields.{Field}
 use Rattle.archiver_lines.specs.declared.criteria.Criterion.{Criterion}
 use Rattle.archiver_lines.specs.declared.reading.Assignment.{Assignment}
 use Rattle.archiver_lines.specs.declared.reading.Local.{Local}
-use Rattle.archiver_lines.specs.Assignments.{name_in, user_in, group_in, minsize_in, maxsize_in, access_in, release_in, stage_in, last_after, last_or, assigned, bare, with_criterion}
+use Rattle.archiver_lines.specs.AssignmentRules.{name_in, user_in, group_in, minsize_in, maxsize_in, access_in, release_in, stage_in, assigned}
+use Rattle.archiver_lines.specs.Last.{last_after, last_or}
+use Rattle.archiver_lines.specs.AssignmentSteps.{bare, with_criterion}
 
 -- the last of each criterion, behind what was said before
 abbrev behind : Assignment → List Criterion → Assignment
@@ -27,5 +29,5 @@ each_behind : (a : Assignment) (given : List Criterion) → fold with_criterion 
 each_behind a [] = refl
 each_behind a (c ∷ given) = each_behind (with_criterion a c) given
 
-pub criteria_told : (line set : ℕ) (local : Local) (path : Field) (given : List Criterion) → fold with_criterion (bare line set local path) given ≡ assigned line set local path given
+pub criteria_told : (line : ℕ) (set : Field) (local : Local) (path : Field) (given : List Criterion) → fold with_criterion (bare line set local path) given ≡ assigned line set local path given
 criteria_told line set local path given = each_behind (bare line set local path) given

@@ -1,5 +1,5 @@
 -- A line is read as what it says, and says what it is read as; and so with what is wrong with it.
-use Rattle.std.proofs.Common.{◌≡◌, ℕ, List, [], ◌∷◌, Ok, Err, refl, sym, subst}
+use Rattle.std.proofs.Common.{◌≡◌, ℕ, length, List, [], ◌∷◌, Ok, Err, refl, sym, subst}
 use Rattle.site_text.specs.declared.line.Line.{Line}
 use Rattle.site_text.specs.declared.fault.ConfFault.{ConfFault}
 use Rattle.site_text.specs.declared.fault.ConfFault.TheVariants.{UnknownDirective, MissingField}
@@ -14,13 +14,13 @@ use Rattle.archiver_lines.specs.declared.reading.Section.{Section}
 use Rattle.archiver_lines.specs.declared.reading.Section.TheVariants.{Params, VsnPools, Vsns}
 use Rattle.archiver_lines.specs.ValueForms.{value_names}
 use Rattle.site_text.specs.Plain.{no_words}
-use Rattle.archiver_lines.specs.Kinds.{kind_of}
-use Rattle.archiver_lines.specs.CopyLines.{copy_line}
-use Rattle.archiver_lines.specs.SectionLines.{pool_form, params_line, vsns_line}
-use Rattle.archiver_lines.specs.Told.{opened_of, file_systems_of, target_of, sets_of, copies_of, params_of, pools_of, room_of}
-use Rattle.archiver_lines.specs.Lines.{copy_reading, assign_reading, params_reading, pool_reading, vsns_reading, within_reading, line_as, line_of}
-use Rattle.archiver_lines.specs.Says.{SaysCopy, SaysAssign, SaysParams, SaysPool, SaysVsns, SaysWithin, SaysAs, LineSays, WrongAs, LineWrong}
-use Rattle.archiver_lines.specs.Wrong.{WrongCopy, WrongAssign, WrongParams, WrongVsns, WrongWithin}
+use Rattle.archiver_lines.specs.KindSteps.{kind_of}
+use Rattle.archiver_lines.specs.CopySteps.{copy_line}
+use Rattle.archiver_lines.specs.SectionRules.{pool_form}
+use Rattle.archiver_lines.specs.SectionSteps.{params_line, vsns_line}
+use Rattle.archiver_lines.specs.Told.{opened_of, file_systems_of, target_of, sets_of, copies_of, params_of, pools_of}
+use Rattle.archiver_lines.specs.LineSteps.{copy_reading, assign_reading, params_reading, pool_reading, vsns_reading, within_reading, line_as, line_of}
+use Rattle.archiver_lines.specs.LineRules.{SaysCopy, SaysAssign, SaysParams, SaysPool, SaysVsns, SaysWithin, SaysAs, LineSays, WrongAs, LineWrong, WrongCopy, WrongAssign, WrongParams, WrongVsns, WrongWithin}
 use Rattle.archiver_lines.proofs.Tests.{bind_ok}
 use Rattle.archiver_lines.proofs.KindLaws.{of_kind, kind_is}
 use Rattle.archiver_lines.proofs.CopyLaws.{copy_read, copy_said}
@@ -59,7 +59,7 @@ pool_line_said number fields said is =
 vsns_line_said : (site : Field) (before : List Reading) (number : ℕ) (fields : List Field) (said : Reading) → vsns_reading site before number fields ≡ Ok said → SaysVsns site before number fields said
 vsns_line_said site before number [] said is = absurd cc
 vsns_line_said site before number (f ∷ fs) said is =
-    let l = bind_ok (vsns_line site (file_systems_of before) (sets_of before) (pools_of before) (room_of before) number f fs) (λ line. Ok (readings.Vsns line)) said is in
+    let l = bind_ok (vsns_line site (file_systems_of before) (sets_of before) (pools_of before) (length (exprs_of before)) number f fs) (λ line. Ok (readings.Vsns line)) said is in
     let e : readings.Vsns l.0 ≡ said = (let h = l.2 in cc) in
     subst (SaysVsns site before number (f ∷ fs)) e (vsns_said site before number f fs l.0 l.1)
 
@@ -158,7 +158,7 @@ params_line_wrong site before (f ∷ fs) fault is = params_wrong site before f f
 
 vsns_line_wrong : (site : Field) (before : List Reading) (number : ℕ) (fields : List Field) (fault : ConfFault) → vsns_reading site before number fields ≡ Err fault → WrongVsns site before number fields fault
 vsns_line_wrong site before number [] fault is = fault_is MissingField fault is
-vsns_line_wrong site before number (f ∷ fs) fault is = vsns_wrong site before number f fs fault (first_failed (vsns_line site (file_systems_of before) (sets_of before) (pools_of before) (room_of before) number f fs) (λ line. readings.Vsns line) fault is)
+vsns_line_wrong site before number (f ∷ fs) fault is = vsns_wrong site before number f fs fault (first_failed (vsns_line site (file_systems_of before) (sets_of before) (pools_of before) (length (exprs_of before)) number f fs) (λ line. readings.Vsns line) fault is)
 
 within_wrong : (section : Section) (site : Field) (before : List Reading) (line : Line) (fault : ConfFault) → within_reading section site before line ≡ Err fault → WrongWithin section site before line fault
 within_wrong Params site before line fault is = params_line_wrong site before line.fields fault is

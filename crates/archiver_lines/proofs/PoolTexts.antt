@@ -4,7 +4,7 @@ use Rattle.site_text.specs.Fields.{Field, next_field}
 use Rattle.site_text.specs.Forms.{each_value, read_form}
 use Rattle.site_text.specs.Values.{is_media}
 use Rattle.site_text.specs.Kinds.{Text, any_field}
-use Rattle.archiver_lines.specs.SectionLines.{text_of, pool_form}
+use Rattle.archiver_lines.specs.SectionRules.{text_of, pool_form}
 
 -- each field of any kind says its text
 pub each_text : (fields : List Field) → each_value any_field fields ≡ Ok (map Text fields)
