@@ -3,7 +3,9 @@ pub mod Joins
 pub mod Digits
 pub mod Groups
 pub mod FormLaws
-pub mod OptionSteps
+pub mod TableLaws
+pub mod LastLaws
+pub mod OptionLoop
 pub mod OptionLaws
 pub mod FileLaws
 pub mod FileMeaning

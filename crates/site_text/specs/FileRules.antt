@@ -1,6 +1,6 @@
 -- Command files: what their lines say one after the other, and which line is the first wrong one.
-use Rattle.std.specs.Prelude.{◌≡◌, ℕ, List, [], ◌∷◌, ◌++◌, length, Option, Some, None, Result, Ok, Err, true, false, if◌then◌else◌, not, ◌⊎◌}
-use Rattle.std.specs.Str.{IsUtf8, is_utf8}
+use Rattle.std.specs.Prelude.{◌≡◌, ℕ, List, [], ◌∷◌, ◌++◌, length, Option, Some, None, Result, Ok, Err, true, false, ◌⊎◌}
+use Rattle.std.specs.Str.{IsUtf8}
 use Rattle.std.specs.Str.Lossy.{utf8_valid_len}
 use Rattle.site_text.specs.declared.line.Line.{Line}
 use Rattle.site_text.specs.declared.fault.ConfFault.{ConfFault}
@@ -9,18 +9,23 @@ use Rattle.site_text.specs.declared.fault.ConfRefusal.{ConfRefusal}
 use Rattle.site_text.specs.declared.fault.ConfError.{ConfError}
 use Rattle.site_text.specs.declared.fault.ConfError.TheVariants.{Refused, NoMemory}
 use Rattle.site_text.specs.Lines.{physical_lines, line_of_byte, ends_continued, lines_of}
-use Rattle.site_text.specs.Fields.{Read}
 
--- Lines are read by what the lines before them said. In these lists of readings the latest stands first.
+-- ---- what lines say
 
--- what a line says, after lines that said those before it
-abbrev pub LineReader : Type 0 → Type 0
-LineReader R = List R → Line → Read R
+-- Lines that stand behind lines that said `before` say these readings, one each, in the order of the file. What a line says hangs on
+-- what the lines before it said.
+abbrev pub LinesSayBehind : {R : Type 0} → (List R → Line → R → Type 0) → List R → List Line → List R → Type 0
+LinesSayBehind LineSays before [] [] = Unit {0}
+LinesSayBehind LineSays before [] (r ∷ said) = ⊥
+LinesSayBehind LineSays before (line ∷ lines) [] = ⊥
+LinesSayBehind LineSays before (line ∷ lines) (r ∷ said) = LineSays before line r × LinesSayBehind LineSays (before ++ r ∷ []) lines said
 
--- The last line says the first of these readings, after the lines before it said the others.
 abbrev pub LinesSay : {R : Type 0} → (List R → Line → R → Type 0) → List Line → List R → Type 0
-LinesSay LineSays lines [] = lines ≡ []
-LinesSay LineSays lines (r ∷ said) = (front : List Line) × (line : Line) × (lines ≡ front ++ line ∷ []) × LinesSay LineSays front said × LineSays said line r
+LinesSay LineSays lines said = LinesSayBehind LineSays [] lines said
+
+-- In a file that has no sections none is ever open.
+abbrev pub no_section : {R : Type 0} → List R → Option ℕ
+no_section said = None
 
 -- ---- a text that is refused as a whole
 
@@ -84,31 +89,3 @@ abbrev pub LinesAnswer : {R C : Type 0} → (List R → Line → R → Type 0) �
 LinesAnswer {R} {C} LineSays LineWrong open_section Tells lines (Ok conf) = (said : List R) × LinesSay LineSays lines said × (open_section said ≡ None) × Tells said conf
 LinesAnswer LineSays LineWrong open_section Tells lines (Err (Refused refusal)) = FirstWrongLine LineSays LineWrong lines refusal ⊎ SectionOpen LineSays open_section lines refusal
 LinesAnswer LineSays LineWrong open_section Tells lines (Err NoMemory) = Unit {0}
-
--- ---- the same, read in steps
-
--- what is read of a line, at its number, and what comes behind it
-abbrev pub at_line : {R A : Type 0} → ℕ → Read R → (R → Result A ConfRefusal) → Result A ConfRefusal
-at_line number (Ok reading) go = go reading
-at_line number (Err fault) go = Err (record { line = number; fault = fault })
-
--- lines one after the other, each by the readings of those before it
-abbrev pub read_lines : {R : Type 0} → LineReader R → List R → List Line → Result (List R) ConfRefusal
-read_lines line before [] = Ok before
-read_lines line before (l ∷ ls) = at_line l.number (line before l) (λ reading. read_lines line (reading ∷ before) ls)
-
--- a section that is open at the end is refused
-abbrev pub unless_open : {R : Type 0} → List R → Option ℕ → Result (List R) ConfRefusal
-unless_open said None = Ok said
-unless_open said (Some line) = Err (record { line = line; fault = faults.SectionNotClosed })
-
-abbrev pub closed_reading : {R : Type 0} → (List R → Option ℕ) → Result (List R) ConfRefusal → Result (List R) ConfRefusal
-closed_reading open_section (Ok said) = unless_open said (open_section said)
-closed_reading open_section (Err refusal) = Err refusal
-
--- What a text says, or its refusal: `SaysOneThing` says that this is the one that the relations have.
-unfoldable pub file_reading : {R : Type 0} → LineReader R → (List R → Option ℕ) → List ℕ → Result (List R) ConfRefusal
-file_reading line open_section text =
-    if not (is_utf8 text) then Err (record { line = line_of_byte (utf8_valid_len text) text; fault = faults.NotText })
-    else if ends_continued (physical_lines text) then Err (record { line = length (physical_lines text); fault = faults.NotText })
-    else closed_reading open_section (read_lines line [] (lines_of text))
