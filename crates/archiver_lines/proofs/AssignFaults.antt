@@ -6,7 +6,7 @@ use Rattle.std.proofs.lemmas.Bool.{leb-true}
 use Rattle.site_text.specs.declared.fault.ConfFault.{ConfFault}
 use Rattle.site_text.specs.declared.fault.ConfFault.TheVariants.{MissingField, BadValue, TooMany, Conflict}
 use Rattle.site_text.specs.Fields.{Field, Read, ◌>>=◌, next_field, refuse_if}
-use Rattle.site_text.specs.Options.{options_of}
+use Rattle.site_text.specs.OptionSteps.{options_of}
 use Rattle.site_text.proofs.OptionLaws.{options_wrong, options_refused}
 use Rattle.archiver_lines.specs.declared.criteria.Criterion.{Criterion}
 use Rattle.archiver_lines.specs.declared.reading.Reading.{Reading}

@@ -4,7 +4,7 @@ use Rattle.std.specs.Prelude.{◌||◌, not, nat_le}
 use Rattle.std.specs.Str.{bytes_eq}
 use Rattle.site_text.specs.declared.fault.ConfFault.TheVariants.{BadValue, TooMany, Conflict}
 use Rattle.site_text.specs.Fields.{Field, Read, ◌>>=◌, next_field, refuse_if}
-use Rattle.site_text.specs.Options.{options_of}
+use Rattle.site_text.specs.OptionSteps.{options_of}
 use Rattle.site_text.proofs.OptionLaws.{options_said, options_read}
 use Rattle.archiver_lines.specs.declared.criteria.Criterion.{Criterion}
 use Rattle.archiver_lines.specs.declared.reading.Reading.{Reading}

@@ -1,4 +1,5 @@
 pub mod Tests
+pub mod Tables
 pub mod Sets
 pub mod LastDot
 pub mod Items

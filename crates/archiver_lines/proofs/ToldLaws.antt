@@ -12,17 +12,30 @@ use Rattle.archiver_lines.specs.declared.reading.Reading.{Reading}
 use Rattle.archiver_lines.specs.declared.reading.VsnsLine.{VsnsLine}
 use Rattle.archiver_lines.specs.declared.reading.VsnExpr.{VsnExpr}
 use Rattle.archiver_lines.specs.declared.known.Known.{Known}
-use Rattle.archiver_lines.specs.Last.{or_else, last_of, last_or}
-use Rattle.archiver_lines.specs.Told.{opened_by, opened_of, file_system_in, file_systems_of, part_begun, part_of, target_in, target_of, mentioned_in, with_set, sets_of, assignment_in, assignments_of, copy_in, copies_of, params_in, params_of, pool_in, pools_of, vsns_in, vsns_of, exprs_of, begins_vsns, has_vsns_of}
+use Rattle.site_text.specs.LastValues.{last_of}
+use Rattle.site_text.proofs.LastLaws.{last_of_more}
+use Rattle.std.specs.Option.{option_or, option_map_or}
+use Rattle.archiver_lines.specs.declared.reading.Opened.{Opened}
+use Rattle.archiver_lines.specs.declared.reading.Local.{Local}
+use Rattle.archiver_lines.specs.declared.reading.Local.TheVariants.{Global}
+use Rattle.archiver_lines.specs.Told.{opened_by, opened_of, file_system_in, file_systems_of, part_named, part_of, target_in, target_of, mentioned_in, with_set, sets_of, assignment_in, assignments_of, copy_in, copies_of, params_in, params_of, pool_in, pools_of, vsns_in, vsns_of, exprs_of, begins_vsns, has_vsns_of}
 use Rattle.archiver_lines.specs.KnownSteps.{Knows, with_each, with_mentioned, exprs_in, IsAdded}
 
 -- ---- one more line
 
-last_more : {A B : Type 0} (says : A → Option B) (default : B) (xs : List A) (x : A) → last_or says default (xs ++ x ∷ []) ≡ unwrap_or (says x) (last_or says default xs)
-last_more says default xs x = fold-append (λ found one. unwrap_or (says one) found) default xs (x ∷ [])
+or_given : {B : Type 0} (said before : Option B) (default : B) → unwrap_or (option_or said before) default ≡ unwrap_or said (unwrap_or before default)
+or_given (Some x) before default = refl
+or_given None before default = refl
 
-last_given_more : {A B : Type 0} (says : A → Option B) (xs : List A) (x : A) → last_of says (xs ++ x ∷ []) ≡ or_else (says x) (last_of says xs)
-last_given_more says xs x = fold-append (λ found one. or_else (says one) found) None xs (x ∷ [])
+opened_more : (said : List Reading) (r : Reading) → opened_of (said ++ r ∷ []) ≡ unwrap_or (opened_by r) (opened_of said)
+opened_more said r = ap (λ (o : Option (Option Opened)). unwrap_or o None) (last_of_more opened_by said r) ∙ or_given (opened_by r) (last_of opened_by said) None
+
+part_given : (site : Field) (name before : Option Field) (local : Local) → option_map_or (part_named site) (option_or name before) local ≡ option_map_or (part_named site) name (option_map_or (part_named site) before local)
+part_given site (Some name) before local = refl
+part_given site None before local = refl
+
+part_more : (site : Field) (said : List Reading) (r : Reading) → part_of site (said ++ r ∷ []) ≡ option_map_or (part_named site) (file_system_in r) (part_of site said)
+part_more site said r = ap (λ (o : Option Field). option_map_or (part_named site) o Global) (last_of_more file_system_in said r) ∙ part_given site (file_system_in r) (last_of file_system_in said) Global
 
 each_step : {A B : Type 0} (says : A → Option B) (found : List B) (x : A) (said : Option B) → says x ≡ said → found ++ filter_map says (x ∷ []) ≡ with_each found said
 each_step says found x (Some y) is = rw is refl
@@ -58,10 +71,10 @@ has_vsns_more said r = list_any-append begins_vsns said (r ∷ []) ∙ ap (λ (b
 -- A line that is added to what is kept is kept as one that was said.
 pub one_more : (site : Field) (said : List Reading) (r : Reading) (before now : Known) → IsAdded site r before now → Knows site said before → Knows site (said ++ r ∷ []) now
 one_more site said r before now added knows = record {
-  opened = added.opened ∙ ap (unwrap_or (opened_by r)) knows.opened ∙ sym (last_more opened_by None said r);
-  local = added.local ∙ ap (unwrap_or (part_begun site r)) knows.local ∙ sym (last_more (part_begun site) _ said r);
+  opened = added.opened ∙ ap (unwrap_or (opened_by r)) knows.opened ∙ sym (opened_more said r);
+  local = added.local ∙ ap (option_map_or (part_named site) (file_system_in r)) knows.local ∙ sym (part_more site said r);
   file_systems = added.file_systems ∙ rw knows.file_systems (sym (each_more file_system_in said r));
-  target = added.target ∙ rw knows.target (sym (last_given_more target_in said r));
+  target = added.target ∙ rw knows.target (sym (last_of_more target_in said r));
   assignments = added.assignments ∙ rw knows.assignments (sym (each_more assignment_in said r));
   sets = added.sets ∙ rw knows.sets (sym (sets_more said r));
   copies = added.copies ∙ rw knows.copies (sym (each_more copy_in said r));

@@ -1,9 +1,9 @@
 -- Assignment lines: what one says, and what is wrong with one.
-use Rattle.std.specs.Prelude.{◌≡◌, ◌⊎◌, ℕ, ◌≤◌, ◌<◌, List, [], ◌∷◌, codes, length, Option, Some, None, true, false}
+use Rattle.std.specs.Prelude.{◌≡◌, ◌⊎◌, ℕ, ◌≤◌, ◌<◌, List, [], ◌∷◌, codes, length, unwrap_or, Option, Some, None, true, false}
 use Rattle.site_text.specs.declared.fault.ConfFault.{ConfFault}
 use Rattle.site_text.specs.declared.fault.ConfFault.TheVariants.{MissingField, BadValue, TooMany, Conflict}
 use Rattle.site_text.specs.Fields.{Field}
-use Rattle.site_text.specs.Options.{OptionsSay, OptionsWrong}
+use Rattle.site_text.specs.OptionRules.{OptionsSay, OptionsWrong}
 use Rattle.archiver_lines.specs.declared.criteria.Criterion.{Criterion}
 use Rattle.archiver_lines.specs.declared.reading.Reading.{Reading}
 use Rattle.archiver_lines.specs.declared.reading.Reading.TheVariants as readings
@@ -14,7 +14,7 @@ use Rattle.archiver_lines.specs.declared.criteria.Stage.{Stage as StageKind}
 use Rattle.archiver_lines.specs.declared.criteria.Stage.TheVariants as stages
 use Rattle.archiver_lines.specs.declared.reading.Assignment.{Assignment}
 use Rattle.archiver_lines.specs.declared.reading.Local.{Local}
-use Rattle.archiver_lines.specs.Last.{last_of, last_or}
+use Rattle.site_text.specs.LastValues.{last_of}
 use Rattle.archiver_lines.specs.Told.{part_of, sets_of, assignments_of}
 use Rattle.archiver_lines.specs.Limits.{most_assignments}
 use Rattle.archiver_lines.specs.Names.{is_set_name, MayMention, IsOneTooMany}
@@ -69,8 +69,8 @@ assigned line set local path given = record {
   minsize = last_of minsize_in given;
   maxsize = last_of maxsize_in given;
   access = last_of access_in given;
-  release = last_or release_in releases.Default given;
-  stage = last_or stage_in stages.Default given;
+  release = unwrap_or (last_of release_in given) releases.Default;
+  stage = unwrap_or (last_of stage_in given) stages.Default;
 }
 
 -- ---- what an assignment line says

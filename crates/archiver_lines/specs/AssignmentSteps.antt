@@ -6,10 +6,10 @@ use Rattle.archiver_lines.specs.declared.criteria.Criterion.{Criterion}
 use Rattle.archiver_lines.specs.declared.reading.Reading.{Reading}
 use Rattle.archiver_lines.specs.declared.reading.Reading.TheVariants as readings
 use Rattle.site_text.specs.declared.fault.ConfFault.TheVariants.{BadValue, TooMany, Conflict}
-use Rattle.site_text.specs.Options.{options_of}
+use Rattle.site_text.specs.OptionSteps.{options_of}
 use Rattle.archiver_lines.specs.declared.reading.Assignment.{Assignment}
 use Rattle.archiver_lines.specs.declared.reading.Local.{Local}
-use Rattle.archiver_lines.specs.Last.{or_else}
+use Rattle.std.specs.Option.{option_or}
 use Rattle.archiver_lines.specs.Limits.{most_assignments}
 use Rattle.archiver_lines.specs.Names.{is_set_name}
 use Rattle.archiver_lines.specs.Paths.{is_set_path}
@@ -28,12 +28,12 @@ with_criterion a c = record {
   set = a.set;
   local = a.local;
   path = a.path;
-  name = or_else (name_in c) a.name;
-  user = or_else (user_in c) a.user;
-  group = or_else (group_in c) a.group;
-  minsize = or_else (minsize_in c) a.minsize;
-  maxsize = or_else (maxsize_in c) a.maxsize;
-  access = or_else (access_in c) a.access;
+  name = option_or (name_in c) a.name;
+  user = option_or (user_in c) a.user;
+  group = option_or (group_in c) a.group;
+  minsize = option_or (minsize_in c) a.minsize;
+  maxsize = option_or (maxsize_in c) a.maxsize;
+  access = option_or (access_in c) a.access;
   release = unwrap_or (release_in c) a.release;
   stage = unwrap_or (stage_in c) a.stage;
 }

@@ -4,8 +4,8 @@ use Rattle.archiver_lines.specs.declared.known.Known.{Known}
 use Rattle.site_text.specs.Fields.{Field}
 use Rattle.archiver_lines.specs.declared.reading.Reading.{Reading}
 use Rattle.archiver_lines.specs.declared.reading.VsnsLine.{VsnsLine}
-use Rattle.archiver_lines.specs.Last.{or_else}
-use Rattle.archiver_lines.specs.Told.{opened_by, opened_of, file_system_in, file_systems_of, part_begun, part_of, target_in, target_of, mentioned_in, with_set, sets_of, assignment_in, assignments_of, copy_in, copies_of, params_in, params_of, pool_in, pools_of, vsns_in, vsns_of, exprs_of, begins_vsns, has_vsns_of}
+use Rattle.std.specs.Option.{option_or, option_map_or}
+use Rattle.archiver_lines.specs.Told.{part_named, opened_by, opened_of, file_system_in, file_systems_of, part_of, target_in, target_of, mentioned_in, with_set, sets_of, assignment_in, assignments_of, copy_in, copies_of, params_in, params_of, pool_in, pools_of, vsns_in, vsns_of, exprs_of, begins_vsns, has_vsns_of}
 
 -- It keeps what the lines told that said these.
 pub record Knows (site : Field) (said : List Reading) (known : Known) : Type 0 where
@@ -38,9 +38,9 @@ exprs_in None = 0
 -- a line that said this was added
 pub record IsAdded (site : Field) (r : Reading) (before now : Known) : Type 0 where
   pub opened : now.opened ≡ unwrap_or (opened_by r) before.opened
-  pub local : now.local ≡ unwrap_or (part_begun site r) before.local
+  pub local : now.local ≡ option_map_or (part_named site) (file_system_in r) before.local
   pub file_systems : now.file_systems ≡ with_each before.file_systems (file_system_in r)
-  pub target : now.target ≡ or_else (target_in r) before.target
+  pub target : now.target ≡ option_or (target_in r) before.target
   pub assignments : now.assignments ≡ with_each before.assignments (assignment_in r)
   pub sets : now.sets ≡ with_mentioned before.sets (mentioned_in r)
   pub copies : now.copies ≡ with_each before.copies (copy_in r)

@@ -1,12 +1,14 @@
-pub mod Last
+pub mod Limits
 pub mod Names
 pub mod Paths
-pub mod Limits
 pub mod Told
 pub mod Faults
 pub mod Criteria
+pub mod CriteriaSteps
 pub mod ParamOptions
+pub mod ParamOptionSteps
 pub mod ValueForms
+pub mod ValueSteps
 pub mod KindRules
 pub mod KindSteps
 pub mod NameRules

@@ -4,9 +4,9 @@ use Rattle.site_text.specs.declared.line.Line.{Line}
 use Rattle.site_text.specs.declared.fault.ConfFault.{ConfFault}
 use Rattle.site_text.specs.declared.fault.ConfFault.TheVariants.{UnknownDirective, MissingField}
 use Rattle.site_text.specs.Fields.{Field}
-use Rattle.site_text.specs.Forms.{FormSays, FormWrong}
-use Rattle.site_text.specs.Plain.{no_words}
-use Rattle.site_text.specs.Directives.{DirectiveSays, DirectiveWrong}
+use Rattle.site_text.specs.FormRules.{FormSays, FormWrong}
+use Rattle.site_text.specs.Directives.{no_words}
+use Rattle.site_text.specs.DirectiveRules.{DirectiveSays, DirectiveWrong}
 use Rattle.archiver_lines.specs.declared.kinds.LineKind.{LineKind}
 use Rattle.archiver_lines.specs.declared.kinds.LineKind.TheVariants as kinds
 use Rattle.archiver_lines.specs.declared.reading.Reading.{Reading}

@@ -3,22 +3,20 @@ use Rattle.std.specs.Prelude.{ℕ, List, [], ◌∷◌, length, Ok, Err}
 use Rattle.site_text.specs.declared.line.Line.{Line}
 use Rattle.site_text.specs.declared.fault.ConfFault.TheVariants.{UnknownDirective, MissingField}
 use Rattle.site_text.specs.Fields.{Field, Read, ◌>>=◌}
-use Rattle.site_text.specs.Plain.{no_words}
 use Rattle.archiver_lines.specs.declared.kinds.LineKind.{LineKind}
 use Rattle.archiver_lines.specs.declared.kinds.LineKind.TheVariants as kinds
 use Rattle.archiver_lines.specs.declared.reading.Reading.{Reading}
 use Rattle.archiver_lines.specs.declared.reading.Reading.TheVariants as readings
 use Rattle.archiver_lines.specs.declared.reading.Section.{Section}
 use Rattle.archiver_lines.specs.declared.reading.Section.TheVariants.{Params, VsnPools, Vsns}
-use Rattle.site_text.specs.Forms.{read_form}
-use Rattle.site_text.specs.Directives.{read_directive}
+use Rattle.site_text.specs.FormSteps.{read_form}
 use Rattle.archiver_lines.specs.Told.{opened_of, file_systems_of, part_of, target_of, sets_of, assignments_of, copies_of, params_of, pools_of, exprs_of}
 use Rattle.archiver_lines.specs.KindSteps.{kind_of}
 use Rattle.archiver_lines.specs.CopySteps.{copy_line}
 use Rattle.archiver_lines.specs.AssignmentSteps.{assign_line}
 use Rattle.archiver_lines.specs.SectionRules.{pool_form}
 use Rattle.archiver_lines.specs.SectionSteps.{params_line, vsns_line}
-use Rattle.archiver_lines.specs.ValueForms.{value_names}
+use Rattle.archiver_lines.specs.ValueSteps.{value_reading}
 
 abbrev pub copy_reading : List Reading → List Field → Read Reading
 copy_reading before [] = Err MissingField
@@ -50,7 +48,7 @@ line_as kinds.Empty site before line = Err MissingField
 line_as kinds.NoDirective site before line = Err UnknownDirective
 line_as kinds.Ends site before line = Ok readings.Closes
 line_as (kinds.Within section) site before line = within_reading section site before line
-line_as kinds.Value site before line = read_directive value_names no_words line.fields
+line_as kinds.Value site before line = value_reading line.fields
 line_as (kinds.Begins section) site before line = Ok (readings.Opens (record { section = section; line = line.number }))
 line_as kinds.Copy site before line = copy_reading before line.fields
 line_as kinds.Assignment site before line = assign_reading site before line.number line.fields

@@ -1,7 +1,7 @@
 -- The names of sets, and of copies in params and vsns.
 use Rattle.std.specs.Prelude.{◌≡◌, ◌⊎◌, ℕ, suc, ◌+◌, ◌≤◌, ◌<◌, List, [], ◌∷◌, length, take, drop, Option, Some, None, Bool, true, false, ◌==◌, ◌&&◌, ◌||◌, nat_le, if◌then◌else◌, slice_index, option_map}
 use Rattle.std.specs.List.{list_all, list_any}
-use Rattle.std.specs.Str.{bytes_eq}
+use Rattle.std.specs.Str.{byte, bytes_eq}
 use Rattle.site_text.specs.Fields.{Field}
 use Rattle.archiver_lines.specs.declared.reading.CopyName.{CopyName}
 use Rattle.site_text.specs.Values.{is_digit, is_letter}
@@ -10,7 +10,7 @@ use Rattle.archiver_lines.specs.Limits.{most_sets}
 
 -- letters, digits and `_`
 abbrev pub is_set_byte : ℕ → Bool
-is_set_byte b = is_letter b || is_digit b || (b == 95)
+is_set_byte b = is_letter b || is_digit b || (b == byte "_")
 
 -- a letter, and up to 28 of these
 abbrev pub is_set_name : Field → Bool
@@ -38,7 +38,7 @@ same_name a b = false
 -- the place of the last `.`, where this stands before what is behind
 abbrev pub dot_before : ℕ → Option ℕ → Option ℕ
 dot_before b (Some place) = Some (suc place)
-dot_before b None = if b == 46 then Some 0 else None
+dot_before b None = if b == byte "." then Some 0 else None
 
 -- the place of the last `.`
 unfoldable pub last_dot : List ℕ → Option ℕ

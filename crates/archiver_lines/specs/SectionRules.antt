@@ -4,22 +4,21 @@ use Rattle.std.specs.List.{list_any}
 use Rattle.std.specs.Str.{bytes_eq}
 use Rattle.site_text.specs.declared.fault.ConfFault.{ConfFault}
 use Rattle.site_text.specs.declared.fault.ConfFault.TheVariants.{MissingField, BadValue, UnknownPool, TooMany}
-use Rattle.site_text.specs.Fields.{Field}
-use Rattle.site_text.specs.Values.{is_media}
-use Rattle.site_text.specs.Options.{OptionsSay, OptionsWrong, Options}
+use Rattle.site_text.specs.Fields.{Field, Read}
+use Rattle.site_text.specs.Values.{is_media, any_value, media_value}
+use Rattle.site_text.specs.OptionRules.{OptionsSay, OptionsWrong}
+use Rattle.site_text.specs.Options.{Options, Alone, WithValue}
 use Rattle.archiver_lines.specs.declared.reading.ParamsLine.{ParamsLine}
 use Rattle.archiver_lines.specs.declared.reading.VsnExpr.{VsnExpr}
 use Rattle.archiver_lines.specs.declared.reading.VsnsLine.{VsnsLine}
 use Rattle.archiver_lines.specs.declared.reading.Reading.{Reading}
 use Rattle.archiver_lines.specs.declared.reading.CopyName.{CopyName}
-use Rattle.site_text.specs.Words.{named}
-use Rattle.site_text.specs.Forms.{Form}
-use Rattle.site_text.specs.Kinds.{Value, Text, Number, any_field, media_field, text_at}
+use Rattle.site_text.specs.Forms.{Form, AnyMore, text}
 use Rattle.archiver_lines.specs.declared.reading.PoolLine.{PoolLine}
 use Rattle.archiver_lines.specs.Told.{params_of, pools_of, exprs_of}
 use Rattle.archiver_lines.specs.Limits.{most_exprs}
 use Rattle.archiver_lines.specs.NameRules.{NameSays, NameWrong}
-use Rattle.archiver_lines.specs.ParamOptions.{takes_value, params_table}
+use Rattle.archiver_lines.specs.ParamOptions.{params_table}
 
 -- ---- params
 
@@ -35,17 +34,10 @@ ParamsWrong site before field fields fault = NameWrong site before field fault
 
 -- ---- vsnpools
 
-abbrev pub text_of : Value → Field
-text_of (Text field) = field
-text_of (Number n) = []
-
--- `POOL MEDIA EXPR..`
-abbrev pub pool_form : ℕ → Form Value PoolLine
-pool_form number = record {
-  kinds = any_field ∷ media_field ∷ any_field ∷ [];
-  more = Some any_field;
-  says = λ values. record { pool = text_at 0 values; media = text_at 1 values; texts = map text_of (drop 2 values); line = number };
-}
+-- `POOL MEDIA EXPR..`, on the line of this number
+abbrev pub pool_form : ℕ → Form PoolLine
+pool_form number = text any_value (λ pool. text media_value (λ media. text any_value (λ first.
+    AnyMore (λ others. record { pool = pool; media = media; texts = first ∷ others; line = number }))))
 
 -- ---- the items of a vsns line
 
@@ -65,29 +57,14 @@ pool_exprs pools media pool = flat_map (exprs_at pool media) pools
 abbrev pub is_pool : List PoolLine → Field → Bool
 is_pool pools name = list_any (λ p. bytes_eq p.pool name) pools
 
--- an item of a vsns line: the word `-pool`, or the text of an expression
-pub data Item : Type 0 where
-  Pool : Item
-  Expr : Field → Item
+-- what the name of a pool behind `-pool` gives
+abbrev pub pool_value : List PoolLine → Field → Field → Read (List VsnExpr)
+pool_value pools media pool = if is_pool pools pool then Ok (pool_exprs pools media pool) else Err UnknownPool
 
-abbrev pub item_of : Field → Item
-item_of field = if bytes_eq field (codes "-pool") then Pool else Expr field
-
-abbrev pub is_pool_word : Item → Bool
-is_pool_word Pool = true
-is_pool_word (Expr text) = false
-
-abbrev pub exprs_alone : Field → ℕ → Item → List VsnExpr
-exprs_alone media line Pool = []
-exprs_alone media line (Expr text) = expr_of media line text ∷ []
-
--- The items of a line as a table: `-pool` takes the name of a pool, any other field stands alone.
-abbrev pub item_table : List PoolLine → Field → ℕ → Options Item (List VsnExpr)
+-- The items of a line: `-pool` takes the name of a pool, any other field is an expression.
+abbrev pub item_table : List PoolLine → Field → ℕ → Options (List VsnExpr)
 item_table pools media line = record {
-  named = λ field. Ok (item_of field);
-  takes_value = is_pool_word;
-  value = λ item pool. if is_pool pools pool then Ok (pool_exprs pools media pool) else Err UnknownPool;
-  alone = exprs_alone media line;
+  option = λ field. Ok (if bytes_eq field (codes "-pool") then WithValue (pool_value pools media) else Alone (expr_of media line field ∷ []));
   excludes = λ before exprs. false;
 }
 

@@ -7,7 +7,7 @@ use Rattle.site_text.specs.Values.{is_media}
 use Rattle.archiver_lines.specs.declared.reading.ParamsLine.{ParamsLine}
 use Rattle.archiver_lines.specs.declared.reading.VsnExpr.{VsnExpr}
 use Rattle.archiver_lines.specs.declared.reading.VsnsLine.{VsnsLine}
-use Rattle.site_text.specs.Options.{options_of}
+use Rattle.site_text.specs.OptionSteps.{options_of}
 use Rattle.archiver_lines.specs.declared.reading.PoolLine.{PoolLine}
 use Rattle.archiver_lines.specs.Limits.{most_exprs}
 use Rattle.archiver_lines.specs.NameSteps.{copy_name}

@@ -1,6 +1,7 @@
 -- What the lines so far told, by what each of them said, in the order of the file.
-use Rattle.std.specs.Prelude.{ℕ, List, [], ◌∷◌, ◌++◌, flat_map, fold, Option, Some, None, Bool, true, false, if◌then◌else◌, option_map}
-use Rattle.std.specs.List.{list_any, filter_map}
+use Rattle.std.specs.Prelude.{ℕ, List, [], ◌∷◌, ◌++◌, flat_map, fold, Option, Some, None, Bool, true, false, if◌then◌else◌, option_map, unwrap_or}
+use Rattle.std.specs.List.{list_any}
+use Rattle.std.specs.Option.{option_map_or}
 use Rattle.std.specs.Str.{bytes_eq}
 use Rattle.site_text.specs.Fields.{Field}
 use Rattle.archiver_lines.specs.declared.reading.Reading.{Reading}
@@ -16,7 +17,7 @@ use Rattle.archiver_lines.specs.declared.reading.Opened.{Opened}
 use Rattle.archiver_lines.specs.declared.reading.Section.{Section}
 use Rattle.archiver_lines.specs.declared.reading.Section.TheVariants as sections
 use Rattle.archiver_lines.specs.declared.reading.VsnExpr.{VsnExpr}
-use Rattle.archiver_lines.specs.Last.{last_of, last_or}
+use Rattle.site_text.specs.LastValues.{all_of, last_of}
 use Rattle.archiver_lines.specs.Names.{is_in}
 
 -- ---- sections
@@ -29,7 +30,7 @@ opened_by r = None
 
 -- the section that is open: the last line that begins or ends one tells it
 abbrev pub opened_of : List Reading → Option Opened
-opened_of said = last_or opened_by None said
+opened_of said = unwrap_or (last_of opened_by said) None
 
 -- the line on which it began
 abbrev pub open_line : List Reading → Option ℕ
@@ -42,19 +43,15 @@ file_system_in (FileSystem name) = Some name
 file_system_in r = None
 
 abbrev pub file_systems_of : List Reading → List Field
-file_systems_of said = filter_map file_system_in said
+file_systems_of said = all_of file_system_in said
 
 -- the part of a file system
 abbrev pub part_named : Field → Field → Local
 part_named site name = if bytes_eq name site then Site else Elsewhere
 
--- the part that begins at a line
-abbrev pub part_begun : Field → Reading → Option Local
-part_begun site r = option_map (part_named site) (file_system_in r)
-
 -- in whose part the next line stands: that of the last `fs =`
 abbrev pub part_of : Field → List Reading → Local
-part_of site said = last_or (part_begun site) Global said
+part_of site said = option_map_or (part_named site) (last_of file_system_in said) Global
 
 -- ---- sets
 
@@ -80,7 +77,7 @@ with_set sets name = if is_in sets name then sets else sets ++ name ∷ []
 
 -- the sets, each once, in the order of their first mention by an assignment or a copy line
 abbrev pub sets_of : List Reading → List Field
-sets_of said = fold with_set [] (filter_map mentioned_in said)
+sets_of said = fold with_set [] (all_of mentioned_in said)
 
 -- ---- lines of one kind, in the order of the file
 
@@ -89,35 +86,35 @@ assignment_in (Assign a) = Some a
 assignment_in r = None
 
 abbrev pub assignments_of : List Reading → List Assignment
-assignments_of said = filter_map assignment_in said
+assignments_of said = all_of assignment_in said
 
 abbrev pub copy_in : Reading → Option SetCopy
 copy_in (Copy line) = Some line
 copy_in r = None
 
 abbrev pub copies_of : List Reading → List SetCopy
-copies_of said = filter_map copy_in said
+copies_of said = all_of copy_in said
 
 abbrev pub params_in : Reading → Option ParamsLine
 params_in (Params line) = Some line
 params_in r = None
 
 abbrev pub params_of : List Reading → List ParamsLine
-params_of said = filter_map params_in said
+params_of said = all_of params_in said
 
 abbrev pub pool_in : Reading → Option PoolLine
 pool_in (Pool line) = Some line
 pool_in r = None
 
 abbrev pub pools_of : List Reading → List PoolLine
-pools_of said = filter_map pool_in said
+pools_of said = all_of pool_in said
 
 abbrev pub vsns_in : Reading → Option VsnsLine
 vsns_in (Vsns line) = Some line
 vsns_in r = None
 
 abbrev pub vsns_of : List Reading → List VsnsLine
-vsns_of said = filter_map vsns_in said
+vsns_of said = all_of vsns_in said
 
 -- the expressions of all vsns lines
 abbrev pub exprs_of : List Reading → List VsnExpr

@@ -3,7 +3,7 @@
 ghost use Rattle.std.specs.Prelude.{◌≡◌, ℕ, List as Seq, ◌++◌, ◌∷◌, ◌&&◌, [], ◌≤◌, ◌<◌, ◌+◌, nat_lt, length, OnOk, IfOk, IfErr, MatchOption, map, codes, true, false, Err};
 ghost use Rattle.std.specs.Str.{bytes_eq};
 ghost use Rattle.site_text.specs.Fields.{Gives, Fails};
-ghost use Rattle.site_text.specs.Forms.{read_form};
+ghost use Rattle.site_text.specs.FormSteps.{read_form};
 ghost use Rattle.archiver_lines.specs.SectionRules.{expr_of, is_of_pool, exprs_at, pool_exprs, is_pool, items_count, exprs_count, pool_form};
 ghost use Rattle.archiver_lines.specs.SectionSteps.{items_of, params_line, vsns_line};
 
