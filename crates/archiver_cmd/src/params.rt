@@ -163,7 +163,6 @@ fn over(first: Params, other: Params) -> Params
 
 /// The options for a copy of a set: each as its own lines give it, else as those of this copy of all sets, else as those of all
 /// sets.
-#[tactic(auto, using(crate::proofs::ParamsTold::each_looked_up))]
 pub fn params_of_copy(lines: &[ParamsLine], set: &[u8], copy: u8) -> Params
     ensures { AreParams lines.now set.now copy result }
 {

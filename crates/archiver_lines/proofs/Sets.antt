@@ -1,5 +1,5 @@
 -- How many sets there may be, and the test of it.
-use Rattle.std.proofs.Common.{◌≡◌, ◌≤◌, ◌<◌, Bool, true, false, List, length, refl, ◌⊎◌, inl, inr, arith}
+use Rattle.std.proofs.Common.{◌≡◌, Bool, true, false, List, length, refl, inl, inr, arith}
 use Rattle.std.specs.Prelude.{◌&&◌, not, nat_le}
 use Rattle.std.proofs.lemmas.Bool.{leb-true}
 use Rattle.site_text.specs.Fields.{Field}

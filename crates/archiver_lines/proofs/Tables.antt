@@ -1,9 +1,8 @@
 -- The code's tables of words are those of what the words mean.
-use Rattle.std.proofs.Common.{◌≡◌, List, Option, None, Ok, refl, sym, ap, ◌∙◌}
+use Rattle.std.proofs.Common.{◌≡◌, List, None, refl, sym}
 use Rattle.std.specs.Prelude.{option_map}
-use Rattle.site_text.specs.Fields.{Field, Read, map_read}
+use Rattle.site_text.specs.Fields.{Field, map_read}
 use Rattle.site_text.specs.Words.{named, standing_for, option_named}
-use Rattle.site_text.specs.Forms.{Form}
 use Rattle.site_text.specs.Options.{OptionForm, WithValue, listed}
 use Rattle.site_text.specs.Directives.{no_words}
 use Rattle.site_text.specs.DirectiveSteps.{Lookup, read_by, read_directive}
@@ -12,8 +11,6 @@ use Rattle.site_text.proofs.FormLaws.{read_same}
 use Rattle.archiver_lines.specs.declared.reading.Reading.{Reading}
 use Rattle.archiver_lines.specs.declared.criteria.Criterion.{Criterion}
 use Rattle.archiver_lines.specs.declared.criteria.CriterionWord.{CriterionWord}
-use Rattle.archiver_lines.specs.declared.param_options.Given.{Given}
-use Rattle.archiver_lines.specs.declared.param_options.ParamOption.{ParamOption}
 use Rattle.archiver_lines.specs.Criteria.{criteria}
 use Rattle.archiver_lines.specs.CriteriaSteps.{criterion_words, criterion_value}
 use Rattle.archiver_lines.specs.ParamOptions.{param_options, listed_option}

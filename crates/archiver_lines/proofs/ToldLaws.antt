@@ -1,7 +1,7 @@
 -- What the reader keeps of the lines so far is what they told.
-use Rattle.std.proofs.Common.{◌≡◌, ℕ, ◌+◌, Bool, true, false, List, [], ◌∷◌, ◌++◌, length, fold, Option, Some, None, Result, Ok, Err, OnOk, refl, sym, ap, ◌∙◌, arith}
+use Rattle.std.proofs.Common.{◌≡◌, ◌+◌, Bool, true, false, List, [], ◌∷◌, ◌++◌, length, fold, Option, Some, None, Result, Ok, Err, OnOk, refl, sym, ap, ◌∙◌, arith}
 use Rattle.std.specs.Prelude.{◌||◌, flat_map, unwrap_or}
-use Rattle.std.specs.List.{filter_map, list_any}
+use Rattle.std.specs.List.{filter_map}
 use Rattle.std.proofs.lemmas.List.{length-append, append-nil}
 use Rattle.std.proofs.lemmas.List.Elements.{filter_map-append}
 use Rattle.std.proofs.lemmas.List.Sums.{fold-append}
@@ -18,7 +18,7 @@ use Rattle.std.specs.Option.{option_or, option_map_or}
 use Rattle.archiver_lines.specs.declared.reading.Opened.{Opened}
 use Rattle.archiver_lines.specs.declared.reading.Local.{Local}
 use Rattle.archiver_lines.specs.declared.reading.Local.TheVariants.{Global}
-use Rattle.archiver_lines.specs.Told.{opened_by, opened_of, file_system_in, file_systems_of, part_named, part_of, target_in, target_of, mentioned_in, with_set, sets_of, assignment_in, assignments_of, copy_in, copies_of, params_in, params_of, pool_in, pools_of, vsns_in, vsns_of, exprs_of, begins_vsns, has_vsns_of}
+use Rattle.archiver_lines.specs.Told.{opened_by, opened_of, file_system_in, part_named, part_of, target_in, mentioned_in, with_set, sets_of, assignment_in, copy_in, params_in, pool_in, vsns_in, vsns_of, exprs_of, begins_vsns, has_vsns_of}
 use Rattle.archiver_lines.specs.KnownSteps.{Knows, with_each, with_mentioned, exprs_in, IsAdded}
 
 -- ---- one more line

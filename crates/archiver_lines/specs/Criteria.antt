@@ -1,8 +1,8 @@
 -- The criteria and attributes of an assignment.
-use Rattle.std.specs.Prelude.{◌-◌, ◌^◌, List, [], ◌∷◌, codes, false}
+use Rattle.std.specs.Prelude.{List, [], ◌∷◌, codes, false}
 use Rattle.site_text.specs.Fields.{Field, Read, map_read}
 use Rattle.site_text.specs.Words.{word_value}
-use Rattle.site_text.specs.Values.{any_value, size_value, age_value, name_value}
+use Rattle.site_text.specs.Values.{any_value, age_value, name_value}
 use Rattle.site_text.specs.Options.{Options, OptionForm, WithValue, listed}
 use Rattle.archiver_lines.specs.declared.criteria.Criterion.{Criterion}
 use Rattle.archiver_lines.specs.declared.criteria.Criterion.TheVariants as given

@@ -1,5 +1,5 @@
 -- The options of params.
-use Rattle.std.specs.Prelude.{ℕ, List, [], ◌∷◌, codes, length, Option, Some, None, Ok, Bool, true, false, ◌&&◌, ◌||◌, not, if◌then◌else◌, drop, nat_eq}
+use Rattle.std.specs.Prelude.{List, [], ◌∷◌, codes, length, Option, Some, None, Bool, true, false, ◌&&◌, ◌||◌, not, if◌then◌else◌, drop, nat_eq}
 use Rattle.std.specs.List.{list_any, starts_with}
 use Rattle.site_text.specs.Fields.{Field, Read, map_read}
 use Rattle.site_text.specs.Words.{word_value}
