@@ -1,6 +1,6 @@
 -- All values and the last one, with one line or option more.
-use Rattle.std.proofs.Common.{◌≡◌, List, [], ◌∷◌, ◌++◌, Option, Some, None, refl, ap, ◌∙◌}
-use Rattle.std.specs.List.{filter_map, last_or, cons_option}
+use Rattle.std.proofs.Common.{◌≡◌, Bool, true, false, ◌||◌, List, [], ◌∷◌, ◌++◌, Option, Some, None, refl, ap, ◌∙◌}
+use Rattle.std.specs.List.{filter_map, last_or, cons_option, list_any}
 use Rattle.std.specs.Option.{option_or}
 use Rattle.std.proofs.lemmas.List.Elements.{filter_map-append}
 use Rattle.std.proofs.lemmas.List.{append-nil}
@@ -21,3 +21,13 @@ all_of_one says given x v is = filter_map-append says given (x ∷ []) ∙ rw is
 -- one that says none
 pub all_of_none : {A B : Type 0} (says : A → Option B) (given : List A) (x : A) → says x ≡ None → all_of says (given ++ x ∷ []) ≡ all_of says given
 all_of_none says given x is = filter_map-append says given (x ∷ []) ∙ rw (is, append-nil (filter_map says given)) refl
+
+-- a test of all, and of one more
+turned : (a b c : Bool) → (a || (b || c)) ≡ (b || (a || c))
+turned true true c = refl
+turned true false c = refl
+turned false b c = refl
+
+pub any_more : {A : Type 0} (p : A → Bool) (xs : List A) (x : A) → list_any p (xs ++ x ∷ []) ≡ (p x || list_any p xs)
+any_more p [] x = refl
+any_more p (y ∷ ys) x = ap (λ (b : Bool). p y || b) (any_more p ys x) ∙ turned (p y) (p x) (list_any p ys)

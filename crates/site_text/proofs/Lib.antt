@@ -4,6 +4,7 @@ pub mod Digits
 pub mod Groups
 pub mod FormLaws
 pub mod TableLaws
+pub mod FormGives
 pub mod LastLaws
 pub mod OptionLoop
 pub mod OptionLaws
