@@ -80,7 +80,7 @@ items_count pools media (field ∷ next ∷ fields) = if bytes_eq field (codes "
     then length (pool_exprs pools media next) + items_count pools media fields
     else 1 + items_count pools media (next ∷ fields)
 
--- the same of the fields behind a name, a media type and items
+-- the same of the fields behind a name: a media type, and items
 unfoldable pub exprs_count : List PoolLine → List Field → ℕ
 exprs_count pools [] = 0
 exprs_count pools (media ∷ items) = items_count pools media items

@@ -1,33 +1,53 @@
--- The same as relations between the texts and what they say, apart from any order of reading.
-use Rattle.std.specs.Prelude.{◌≡◌, ℕ, List, Option, Some, Result, Ok, Err}
+-- What the five command files of a site say, and which of them is the first that is wrong: apart from any order of reading.
+use Rattle.std.specs.Prelude.{◌≡◌, ℕ, ◌^◌, ◌≤◌, List, length, Option, Result, Ok, Err, unwrap_or}
 use Rattle.site_text.specs.declared.line.Line.{Line}
 use Rattle.site_text.specs.declared.fault.ConfFault.{ConfFault}
 use Rattle.site_text.specs.declared.fault.ConfRefusal.{ConfRefusal}
-use Rattle.site_text.specs.declared.fault.ConfError.{ConfError}
-use Rattle.site_text.specs.declared.fault.ConfError.TheVariants as faults
-use Rattle.site_text.specs.Files.{FileSays, FileWrong}
-use Rattle.site_text.specs.Plain.{no_section}
+use Rattle.site_text.specs.FileRules.{FileSays, FileWrong, no_section}
 use Rattle.daemon_cmds.specs.declared.site_conf.SiteConf.{SiteConf}
 use Rattle.daemon_cmds.specs.declared.site_conf.SiteReading.{SiteReading}
 use Rattle.daemon_cmds.specs.declared.stager_conf.StagerReading.{StagerReading}
 use Rattle.daemon_cmds.specs.declared.releaser_conf.ReleaserReading.{ReleaserReading}
 use Rattle.daemon_cmds.specs.declared.recycler_conf.RecyclerReading.{RecyclerReading}
-use Rattle.daemon_cmds.specs.SiteTold.{SiteLineSays, SiteLineWrong}
-use Rattle.daemon_cmds.specs.StagerTold.{StagerLineSays, StagerLineWrong, TellsStager}
-use Rattle.daemon_cmds.specs.ReleaserTold.{ReleaserLineSays, ReleaserLineWrong, TellsReleaser}
-use Rattle.daemon_cmds.specs.RecyclerTold.{RecyclerLineSays, RecyclerLineWrong, TellsRecycler}
+use Rattle.daemon_cmds.specs.SiteRules.{SiteLineSays, SiteLineWrong}
+use Rattle.daemon_cmds.specs.StagerRules.{StagerLineSays, StagerLineWrong}
+use Rattle.daemon_cmds.specs.StagerTold.{TellsStager}
+use Rattle.daemon_cmds.specs.ReleaserRules.{ReleaserLineSays, ReleaserLineWrong}
+use Rattle.daemon_cmds.specs.ReleaserTold.{TellsReleaser}
+use Rattle.daemon_cmds.specs.RecyclerRules.{RecyclerLineSays, RecyclerLineWrong}
+use Rattle.daemon_cmds.specs.RecyclerTold.{TellsRecycler}
 use Rattle.archiver_lines.specs.declared.reading.Reading.{Reading}
-use Rattle.archiver_lines.specs.Says.{LineSays, LineWrong}
+use Rattle.archiver_lines.specs.LineRules.{LineSays, LineWrong}
 use Rattle.archiver_lines.specs.Told.{open_line}
 use Rattle.archiver_cmd.specs.Conf.{Tells}
 use Rattle.records.specs.declared.file.SiteTexts.{SiteTexts}
 use Rattle.records.specs.declared.reply.CommandFile.{CommandFile}
 use Rattle.records.specs.declared.reply.CommandFile.TheVariants.{Site, Archiver, Stager, Releaser, Recycler}
-use Rattle.configuration.specs.Readings.{site_told, refusal_of}
 use Rattle.configuration.specs.declared.read.FileRefusal.{FileRefusal}
 use Rattle.configuration.specs.declared.read.Configuration.{Configuration}
 use Rattle.configuration.specs.declared.read.ConfigurationError.{ConfigurationError}
 use Rattle.configuration.specs.declared.read.ConfigurationError.TheVariants.{Refused, NoMemory}
+use Rattle.daemon_cmds.specs.SiteTold.{name_of, cache_of, high_of, low_of, libraries_of, volumes_of, default_name, default_cache, default_high, default_low}
+
+-- a command file has at most 65,536 bytes
+abbrev pub IsWithin : List ℕ → Type 0
+IsWithin text = length text ≤ 2 ^ 16
+
+abbrev pub AreWithin : SiteTexts → Type 0
+AreWithin texts = IsWithin texts.site × IsWithin texts.archiver × IsWithin texts.stager × IsWithin texts.releaser × IsWithin texts.recycler
+
+-- ---- what the texts say
+
+-- The site that the lines of its site.conf tell, each directive with its default where none of them gives it.
+abbrev pub site_told : List SiteReading → SiteConf
+site_told said = record {
+  name = unwrap_or (name_of said) default_name;
+  cache = unwrap_or (cache_of said) default_cache;
+  high = unwrap_or (high_of said) default_high;
+  low = unwrap_or (low_of said) default_low;
+  libraries = libraries_of said;
+  volumes = volumes_of said;
+}
 
 -- what the lines of the five files say
 pub record Readings : Type 0 where
@@ -96,18 +116,7 @@ ConfigurationAnswers texts (Ok configuration) = Says texts configuration
 ConfigurationAnswers texts (Err (Refused refusal)) = IsFirstWrong texts refusal
 ConfigurationAnswers texts (Err NoMemory) = Unit {0}
 
--- the steps tell this refusal; want of memory may come at any text
-abbrev pub TellsRefusal : SiteTexts → ConfigurationError → Type 0
-TellsRefusal texts (Refused refusal) = refusal_of texts ≡ Some refusal
-TellsRefusal texts NoMemory = Unit {0}
-
--- ---- the file of which something was read
-
--- what was read of a file; what is wrong is told with the file
-abbrev pub in_file : {C : Type 0} → CommandFile → Result C ConfError → Result C ConfigurationError
-in_file file (Ok conf) = Ok conf
-in_file file (Err (faults.Refused refusal)) = Err (Refused (record { file = file; line = refusal.line; fault = refusal.fault }))
-in_file file (Err faults.NoMemory) = Err NoMemory
+-- ---- one file
 
 -- what a file says, or what is wrong with it
 abbrev pub FileTold : {R C : Type 0} → CommandFile → (List R → Line → R → Type 0) → (List R → Line → ConfFault → Type 0) → (List R → Option ℕ) → (List R → C → Type 0) → List ℕ → Result C ConfigurationError → Type 0

@@ -1,54 +1,44 @@
--- What the five command files of a site say, and which of them is the first that is refused.
-use Rattle.std.specs.Prelude.{ℕ, ◌/◌, ◌≤◌, nat_le, Bool, ◌&&◌, List, length, codes, Option, Some, None, Result, Ok, Err, unwrap_or}
+-- What the five command files say, and the first that is refused, read in steps: each file line after line.
+use Rattle.std.specs.Prelude.{◌≡◌, ℕ, ◌^◌, ◌/◌, nat_le, Bool, ◌&&◌, List, length, Option, Some, None, Result, Ok, Err}
 use Rattle.site_text.specs.declared.fault.ConfRefusal.{ConfRefusal}
-use Rattle.site_text.specs.Files.{file_reading}
-use Rattle.site_text.specs.Plain.{no_section}
+use Rattle.site_text.specs.FileSteps.{file_reading}
+use Rattle.site_text.specs.FileRules.{no_section}
 use Rattle.daemon_cmds.specs.declared.site_conf.SiteConf.{SiteConf}
 use Rattle.daemon_cmds.specs.declared.site_conf.SiteReading.{SiteReading}
 use Rattle.daemon_cmds.specs.declared.stager_conf.StagerReading.{StagerReading}
 use Rattle.daemon_cmds.specs.declared.releaser_conf.ReleaserReading.{ReleaserReading}
 use Rattle.daemon_cmds.specs.declared.recycler_conf.RecyclerReading.{RecyclerReading}
-use Rattle.daemon_cmds.specs.SiteTold.{site_line, name_of, cache_of, high_of, low_of, libraries_of, volumes_of}
-use Rattle.daemon_cmds.specs.StagerTold.{stager_line}
-use Rattle.daemon_cmds.specs.ReleaserTold.{releaser_line}
-use Rattle.daemon_cmds.specs.RecyclerTold.{recycler_line}
+use Rattle.daemon_cmds.specs.SiteSteps.{site_line}
+use Rattle.daemon_cmds.specs.SiteTold.{default_cache}
+use Rattle.daemon_cmds.specs.StagerSteps.{stager_line}
+use Rattle.daemon_cmds.specs.ReleaserSteps.{releaser_line}
+use Rattle.daemon_cmds.specs.RecyclerSteps.{recycler_line}
 use Rattle.archiver_lines.specs.declared.reading.Reading.{Reading}
-use Rattle.archiver_lines.specs.Lines.{line_of}
+use Rattle.archiver_lines.specs.LineSteps.{line_of}
 use Rattle.archiver_lines.specs.Told.{open_line}
 use Rattle.records.specs.declared.file.SiteTexts.{SiteTexts}
 use Rattle.records.specs.declared.reply.CommandFile.{CommandFile}
 use Rattle.records.specs.declared.reply.CommandFile.TheVariants.{Site, Archiver, Stager, Releaser, Recycler}
 use Rattle.configuration.specs.declared.read.FileRefusal.{FileRefusal}
+use Rattle.site_text.specs.declared.fault.ConfError.{ConfError}
+use Rattle.site_text.specs.declared.fault.ConfError.TheVariants as faults
+use Rattle.configuration.specs.declared.read.ConfigurationError.{ConfigurationError}
+use Rattle.configuration.specs.declared.read.ConfigurationError.TheVariants.{Refused, NoMemory}
+use Rattle.configuration.specs.ConfigurationRules.{site_told}
+
+-- ---- how long the texts are
 
 -- a command file has at most 65,536 bytes
-abbrev pub IsWithin : List ℕ → Type 0
-IsWithin text = length text ≤ 65536
-
-abbrev pub AreWithin : SiteTexts → Type 0
-AreWithin texts = IsWithin texts.site × IsWithin texts.archiver × IsWithin texts.stager × IsWithin texts.releaser × IsWithin texts.recycler
-
--- the same as a test
 abbrev pub is_within : List ℕ → Bool
-is_within text = nat_le (length text) 65536
+is_within text = nat_le (length text) (2 ^ 16)
 
 abbrev pub are_within : SiteTexts → Bool
 are_within texts = is_within texts.site && is_within texts.archiver && is_within texts.stager && is_within texts.releaser && is_within texts.recycler
 
--- ---- each file, read line after line. In these lists of readings the latest stands first.
+-- ---- each file, read line after line
 
 unfoldable pub site_reading : List ℕ → Result (List SiteReading) ConfRefusal
 site_reading text = file_reading site_line no_section text
-
--- the site that its lines tell, each directive with its default where none of them gives it
-abbrev pub site_told : List SiteReading → SiteConf
-site_told said = record {
-  name = unwrap_or (name_of said) (codes "samfs1");
-  cache = unwrap_or (cache_of said) 67108864;
-  high = unwrap_or (high_of said) 80;
-  low = unwrap_or (low_of said) 70;
-  libraries = libraries_of said;
-  volumes = volumes_of said;
-}
 
 -- the other files stand on the site
 unfoldable pub archiver_reading : SiteConf → List ℕ → Result (List Reading) ConfRefusal
@@ -89,11 +79,24 @@ refusal_of texts = refusal_by (site_reading texts.site) texts
 
 -- ---- the cache
 
--- that of the site that lines tell; a site.conf that is refused tells none
+-- that of the site that lines tell; of a site.conf that is refused the default one
 abbrev pub cache_by : Result (List SiteReading) ConfRefusal → ℕ
 cache_by (Ok said) = (site_told said).cache
-cache_by (Err refusal) = 67108864
+cache_by (Err refusal) = default_cache
 
 -- how many blocks of 4,096 bytes the cache of these texts has
 unfoldable pub blocks_of : SiteTexts → ℕ
 blocks_of texts = cache_by (site_reading texts.site) / 4096
+
+-- ---- what the reader answers
+
+-- reading in steps tells this refusal; want of memory may come at any text
+abbrev pub TellsRefusal : SiteTexts → ConfigurationError → Type 0
+TellsRefusal texts (Refused refusal) = refusal_of texts ≡ Some refusal
+TellsRefusal texts NoMemory = Unit {0}
+
+-- what was read of a file; what is wrong is told with the file
+abbrev pub in_file : {C : Type 0} → CommandFile → Result C ConfError → Result C ConfigurationError
+in_file file (Ok conf) = Ok conf
+in_file file (Err (faults.Refused refusal)) = Err (Refused (record { file = file; line = refusal.line; fault = refusal.fault }))
+in_file file (Err faults.NoMemory) = Err NoMemory
