@@ -1,7 +1,6 @@
 -- What the files say one by one, put together.
 use Rattle.std.proofs.Common.{◌≡◌, ◌<◌, ◌/◌, arith, List, None, Result, Ok, Err, IfOk, IfErr, refl, sym, subst}
-use Rattle.site_text.specs.Files.{FileSays}
-use Rattle.site_text.specs.Plain.{no_section}
+use Rattle.site_text.specs.FileRules.{FileSays, no_section}
 use Rattle.daemon_cmds.specs.declared.site_conf.SiteConf.{SiteConf}
 use Rattle.daemon_cmds.specs.declared.site_conf.SiteReading.{SiteReading}
 use Rattle.daemon_cmds.specs.declared.stager_conf.StagerConf.{StagerConf}
@@ -10,12 +9,16 @@ use Rattle.daemon_cmds.specs.declared.releaser_conf.ReleaserConf.{ReleaserConf}
 use Rattle.daemon_cmds.specs.declared.releaser_conf.ReleaserReading.{ReleaserReading}
 use Rattle.daemon_cmds.specs.declared.recycler_conf.RecyclerConf.{RecyclerConf}
 use Rattle.daemon_cmds.specs.declared.recycler_conf.RecyclerReading.{RecyclerReading}
-use Rattle.daemon_cmds.specs.SiteTold.{SiteLineSays, TellsSite}
-use Rattle.daemon_cmds.specs.StagerTold.{StagerLineSays, TellsStager}
-use Rattle.daemon_cmds.specs.ReleaserTold.{ReleaserLineSays, TellsReleaser}
-use Rattle.daemon_cmds.specs.RecyclerTold.{RecyclerLineSays, RecyclerLineWrong, TellsRecycler}
+use Rattle.daemon_cmds.specs.SiteRules.{SiteLineSays}
+use Rattle.daemon_cmds.specs.SiteTold.{TellsSite}
+use Rattle.daemon_cmds.specs.StagerRules.{StagerLineSays}
+use Rattle.daemon_cmds.specs.StagerTold.{TellsStager}
+use Rattle.daemon_cmds.specs.ReleaserRules.{ReleaserLineSays}
+use Rattle.daemon_cmds.specs.ReleaserTold.{TellsReleaser}
+use Rattle.daemon_cmds.specs.RecyclerRules.{RecyclerLineSays, RecyclerLineWrong}
+use Rattle.daemon_cmds.specs.RecyclerTold.{TellsRecycler}
 use Rattle.archiver_lines.specs.declared.reading.Reading.{Reading}
-use Rattle.archiver_lines.specs.Says.{LineSays}
+use Rattle.archiver_lines.specs.LineRules.{LineSays}
 use Rattle.archiver_lines.specs.Told.{open_line}
 use Rattle.archiver_cmd.specs.declared.conf.ArchiverConf.{ArchiverConf}
 use Rattle.archiver_cmd.specs.Conf.{Tells}
@@ -25,8 +28,8 @@ use Rattle.records.specs.declared.reply.CommandFile.TheVariants.{Recycler}
 use Rattle.configuration.specs.declared.read.Configuration.{Configuration}
 use Rattle.configuration.specs.declared.read.ConfigurationError.{ConfigurationError}
 use Rattle.configuration.specs.declared.read.ConfigurationError.TheVariants.{Refused, NoMemory}
-use Rattle.configuration.specs.Readings.{site_told, refusal_of, blocks_of}
-use Rattle.configuration.specs.Says.{Says, SaysSite, IsFirstWrong, ConfigurationAnswers, TellsRefusal, FileTold}
+use Rattle.configuration.specs.ConfigurationRules.{site_told, Says, SaysSite, IsFirstWrong, ConfigurationAnswers, FileTold}
+use Rattle.configuration.specs.ConfigurationSteps.{refusal_of, blocks_of, TellsRefusal}
 use Rattle.configuration.proofs.Laws.{says-read, says-blocks, wrong-refused, blocks-range}
 
 -- a site that lines tell is the one that they tell

@@ -8,8 +8,8 @@ ghost use Rattle.records.specs.declared.event.Event.TheVariants.{Configure as Co
 ghost use Rattle.records.specs.declared.reply.Reply.TheVariants.{Refused};
 ghost use Rattle.records.specs.declared.step.StepKind.TheVariants.{Configured};
 ghost use Rattle.journal.specs.Records.{IsPayload};
-ghost use Rattle.configuration.specs.Readings.{AreWithin, refusal_of};
-ghost use Rattle.configuration.specs.Says.{TellsRefusal};
+ghost use Rattle.configuration.specs.ConfigurationRules.{AreWithin};
+ghost use Rattle.configuration.specs.ConfigurationSteps.{refusal_of, TellsRefusal};
 ghost use Rattle.site_history.specs.Site.{Fields};
 ghost use Rattle.site_history.specs.Steps.{HistoryStep};
 ghost use Rattle.site_history.specs.Answers.{bare_step, configure_refusal, conf_refused};

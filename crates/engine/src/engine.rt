@@ -4,7 +4,7 @@ ghost use Rattle.std.specs.Prelude.{◌≡◌, ◌≢◌, ◌≤◌, ◌<◌, �
 ghost use Rattle.base.specs.Causes.{Rose};
 ghost use Rattle.bank.specs.Content.{Content};
 ghost use Rattle.bank.specs.View.{OnlyRead};
-ghost use Rattle.configuration.specs.Says.{Says};
+ghost use Rattle.configuration.specs.ConfigurationRules.{Says};
 ghost use Rattle.site_history.specs.Steps.{HistoryStep};
 ghost use Rattle.site_history.specs.Histories.{after};
 ghost use Rattle.site_history.specs.Worlds.{World, Turn, EventTurn, at, moment_of, new_world, IsFound, RefusesReopening};

@@ -10,7 +10,7 @@ use Rattle.records.specs.declared.reply.Rule.{Rule}
 use Rattle.records.specs.declared.file.FileRec.{FileRec}
 use Rattle.records.specs.declared.file.SiteTexts.{SiteTexts}
 use Rattle.configuration.specs.declared.read.FileRefusal.{FileRefusal}
-use Rattle.configuration.specs.Readings.{refusal_of, are_within}
+use Rattle.configuration.specs.ConfigurationSteps.{refusal_of, are_within}
 use Rattle.site_history.specs.Site.{Fields, FileBytes, Site, file_at}
 use Rattle.site_history.specs.Steps.{HistoryStep}
 use Rattle.site_history.specs.Answers.{Answer, answer_to, put_rule, put_answer_by, read_answer_of, remove_answer_of, conf_refused, has_files, configure_refusal, configure_answer, configure_answer_by}

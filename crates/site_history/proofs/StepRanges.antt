@@ -16,7 +16,7 @@ use Rattle.records.proofs.InRange.{in_range}
 use Rattle.records.specs.declared.step.Step.{Step}
 use Rattle.records.specs.declared.step.StepKind.{StepKind}
 use Rattle.records.specs.declared.step.StepKind.TheVariants.{Configured, Put, Accessed, Removed}
-use Rattle.configuration.specs.Readings.{AreWithin}
+use Rattle.configuration.specs.ConfigurationRules.{AreWithin}
 use Rattle.cache_space.specs.Blocks.{blocks_for}
 use Rattle.journal.specs.Records.{IsPayload}
 use Rattle.site_history.specs.Site.{Fields}

@@ -3,9 +3,8 @@ use Rattle.records.specs.declared.file.SiteTexts.{SiteTexts}
 use Rattle.configuration.specs.declared.read.ConfigurationError.{ConfigurationError}
 use Rattle.configuration.specs.declared.read.ConfigurationError.TheVariants.{Refused}
 use Rattle.configuration.specs.declared.read.FileRefusal.{FileRefusal}
-use Rattle.configuration.specs.Readings.{refusal_of}
+use Rattle.configuration.specs.ConfigurationSteps.{refusal_of, TellsRefusal}
 use Rattle.records.specs.Texts.{no_texts}
-use Rattle.configuration.specs.Says.{TellsRefusal}
 use Rattle.configuration.proofs.Laws.{no_texts-read}
 use Rattle.site_state.proofs.replays.first_site.Goals as goal
 
