@@ -2,6 +2,7 @@
 
 ghost use Rattle.std.specs.Prelude.{◌≡◌, ◌+◌, ◌^◌, ◌<◌, ◌≤◌, ℕ, false, length, IsErr, IfOk, OnErr, OnOk};
 ghost use Rattle.base.specs.Causes.{HasCause};
+ghost use Rattle.bank.specs.Faults.{HasJournalCause};
 ghost use Rattle.bank.specs.View.{untold};
 ghost use Rattle.bank.specs.declared.file.FileBankRefusal.TheVariants.{NoMemory};
 
@@ -41,13 +42,15 @@ pub struct FileBank<R> {
     areas: AreaFiles<R>,
     lock: File,
     faults: u64,
+    journal_faults: u64,
     last_fault: u32,
 }
 
 impl<R: Files<File = File> + Drop> FileBank<R> {
     /// Opens a folder that is there.
     pub fn open(rt: R, alloc: Global, folder: &str) -> Result<Self, FileBankRefusal>
-        ensures { IfOk result (λ b. b.faults ≡ 0) }
+        ensures faults { IfOk result (λ b. b.faults ≡ 0) }
+        ensures journal_faults { IfOk result (λ b. b.journal_faults ≡ 0) }
     {
         let path = format!(in alloc; "{folder}/lock")?;
         let opened = OpenOptions::new()
@@ -72,6 +75,7 @@ impl<R: Files<File = File> + Drop> FileBank<R> {
             areas,
             lock,
             faults: 0,
+            journal_faults: 0,
             last_fault: 0,
         })
     }
@@ -79,6 +83,7 @@ impl<R: Files<File = File> + Drop> FileBank<R> {
     // Counts a fault.
     fn counted(&mut self, area: u32, answer: io::Result<()>) -> Result<(), BankFailed>
         ensures cause { HasCause self.old.faults self.new.faults result }
+        ensures journal_cause { HasJournalCause area self.old.journal_faults self.new.journal_faults result }
         ensures area { OnErr result (self.new.last_fault ≡ area) }
         ensures last { OnOk result (self.new.last_fault ≡ self.old.last_fault) }
     {
@@ -86,6 +91,9 @@ impl<R: Files<File = File> + Drop> FileBank<R> {
             Ok(()) => Ok(()),
             Err(_) => {
                 self.faults = self.faults.saturating_add(1);
+                if area == 0 {
+                    self.journal_faults = self.journal_faults.saturating_add(1);
+                }
                 self.last_fault = area;
                 Err(BankFailed {})
             }
@@ -101,6 +109,8 @@ impl<R: Files<File = File> + Drop> Bank for FileBank<R> {
     ghost faults = { λ b. b.faults };
 
     ghost last_fault = { λ b. b.last_fault };
+
+    ghost journal_faults = { λ b. b.journal_faults };
 
     ghost sound = { λ b told. record { reads_as_image = λ a. tt; counts_now = λ t c le i. tt; only_now = λ c l a. tt } };
 

@@ -3,6 +3,7 @@
 ghost use Rattle.std.specs.Prelude.{◌≡◌, ◌⊎◌, ◌+◌, ◌^◌, ◌<◌, ◌≤◌, ℕ, true, false, [], ◌∷◌, ◌++◌, reverse, take, IsTrue, length, IfOk, IsOkAnd, OnOk, OnErr, IsErr};
 ghost use Rattle.base.specs.Causes.{HasCause};
 ghost use Rattle.bank.specs.Content.{Stands, Same};
+ghost use Rattle.bank.specs.Faults.{HasJournalCause};
 ghost use Rattle.bank.specs.Past.{content_of};
 ghost use Rattle.bank.specs.Failing.{same_kind, count_of, is_listed};
 
@@ -22,6 +23,7 @@ pub struct MemoryBank {
     calls: List<Call>,
     fail: List<FailAt>,
     faults: u64,
+    journal_faults: u64,
     last_fault: u32,
 }
 
@@ -77,6 +79,7 @@ impl MemoryBank {
             calls: List::new(alloc),
             fail,
             faults: 0,
+            journal_faults: 0,
             last_fault: 0,
         })
     }
@@ -110,17 +113,22 @@ impl MemoryBank {
             calls: List::new(alloc),
             fail: List::new(alloc),
             faults: 0,
+            journal_faults: 0,
             last_fault: 0,
         })
     }
 
     // Counts a fault.
     fn refuse(&mut self, area: u32) -> Result<(), BankFailed>
-        ensures kept { self.new ≡ record self.old { faults = self.new.faults; last_fault = area } }
+        ensures kept { self.new ≡ record self.old { faults = self.new.faults; journal_faults = self.new.journal_faults; last_fault = area } }
         ensures cause { HasCause self.old.faults self.new.faults result }
+        ensures journal_cause { HasJournalCause area self.old.journal_faults self.new.journal_faults result }
         ensures err { IsErr result }
     {
         self.faults = self.faults.saturating_add(1);
+        if area == 0 {
+            self.journal_faults = self.journal_faults.saturating_add(1);
+        }
         self.last_fault = area;
         Err(BankFailed {})
     }
@@ -135,6 +143,7 @@ impl MemoryBank {
     ) -> Result<(), BankFailed>
         ensures recorded { Records kind area place bytes.now self.old self.new result }
         ensures cause { HasCause self.old.faults self.new.faults result }
+        ensures journal_cause { HasJournalCause area self.old.journal_faults self.new.journal_faults result }
         ensures area { OnErr result (self.new.last_fault ≡ area) }
         ensures last { OnOk result (self.new.last_fault ≡ self.old.last_fault) }
     {
@@ -170,6 +179,8 @@ impl Bank for MemoryBank {
 
     ghost last_fault = { λ m. m.last_fault };
 
+    ghost journal_faults = { λ m. m.journal_faults };
+
     ghost sound = { λ m told. sound_of (began m) (past_of m) };
 
     fn read(&mut self, area: u32, place: u64, into: &mut [u8]) -> Result<(), BankFailed>
@@ -178,6 +189,7 @@ impl Bank for MemoryBank {
         ensures unchanged { Unchanged (view_of (began self.old) (past_of self.old)) (view_of (began self.new) (past_of self.new)) }
         ensures recorded { Records BankCall.Read area place [] self.old self.new result }
         ensures cause { HasCause self.old.faults self.new.faults result }
+        ensures journal_cause { HasJournalCause area self.old.journal_faults self.new.journal_faults result }
         ensures area { OnErr result (self.new.last_fault ≡ area) }
         ensures last { OnOk result (self.new.last_fault ≡ self.old.last_fault) }
     {
@@ -199,6 +211,7 @@ impl Bank for MemoryBank {
         ensures later { OnOk result (length (past_of self.old) < length (past_of self.new)) }
         ensures recorded { Records BankCall.Write area place bytes.now self.old self.new result }
         ensures cause { HasCause self.old.faults self.new.faults result }
+        ensures journal_cause { HasJournalCause area self.old.journal_faults self.new.journal_faults result }
         ensures area { OnErr result (self.new.last_fault ≡ area) }
         ensures last { OnOk result (self.new.last_fault ≡ self.old.last_fault) }
     {
@@ -211,6 +224,7 @@ impl Bank for MemoryBank {
         ensures later { OnOk result (length (past_of self.old) < length (past_of self.new)) }
         ensures recorded { Records BankCall.Sync area 0 [] self.old self.new result }
         ensures cause { HasCause self.old.faults self.new.faults result }
+        ensures journal_cause { HasJournalCause area self.old.journal_faults self.new.journal_faults result }
         ensures area { OnErr result (self.new.last_fault ≡ area) }
         ensures last { OnOk result (self.new.last_fault ≡ self.old.last_fault) }
     {
