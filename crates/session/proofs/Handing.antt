@@ -128,8 +128,7 @@ module _ {B P : Type 0} (told : Bool) (faults : B → ℕ) (view : B → View) (
         found = found;
         is_found = is_found;
         opened = (view opening.bank).moment;
-        opening = λ t. opening_later journal_bytes (view opening.bank) (view closing.bank) (view bank).moment before (passes t)
-            (opening_read journal_bytes (view bank) (view opening.bank) before (read t) (settled t));
+        opening = λ t. opening_later (view bank) (view opening.bank) (view closing.bank) (passes t) (opening_read (view bank) (view opening.bank) (read t));
         session = whole_call;
         acknowledged = all_held journal_bytes (view closing.bank) told (record seen_open { bank_faults = faults bank }) (seen_after closing.bank) (stage_of found) marks Settled budget status whole_call;
         whole = whole_output (StandsFor told view closing) told journal_bytes budget (view closing.bank) seen_open (seen_after closing.bank) (stage_of found) refl marks status session;

@@ -4,7 +4,7 @@ use Rattle.bank.specs.Content.{Image}
 use Rattle.bank.specs.View.{View, IsImage, IsSound, LeavesOnly, OnlyRead}
 use Rattle.site_history.specs.Steps.{HistoryStep}
 use Rattle.site_history.specs.Worlds.{World}
-use Rattle.site_history.specs.Images.{ReadsAs, IsSettled}
+use Rattle.site_history.specs.Images.{ReadsAs}
 use Rattle.session.specs.Rounds.{Stage, Round, stage_after, AreInTime}
 use Rattle.session.specs.Kept.{AreKept, IsOpening, Passes}
 use Rattle.session.proofs.RoundLaws.{in_time_to}
@@ -29,17 +29,17 @@ kept_more size store store' from first (x ∷ rounds) round kept in_time left sa
       kept_more size store store' x.moment x.after rounds round kept.1 in_time.1 left same since,
     )
 
--- A store that was settled, and was read alone, is open: each image meanwhile reads nearly as before.
-pub opening_read : (size : ℕ) (u v : View) (before : List HistoryStep) → OnlyRead u v → IsSettled size u before → IsOpening size v u.moment v.moment before
-opening_read size u v before read settled = record {
+-- A store that was read alone is open: each image meanwhile is one from before.
+pub opening_read : (u v : View) → OnlyRead u v → IsOpening u v v.moment
+opening_read u v read = record {
   later = read.moments.later;
-  images = λ c left. inr (settled.each c (read.moments.each c left));
+  images = λ c left. inr (read.moments.each c left);
 }
 
 -- That stays so as time goes on: any other image is one since the store was open.
-pub opening_later : (size : ℕ) (v v' : View) (from : ℕ) (before : List HistoryStep) → Passes v v' → IsOpening size v from v.moment before → IsOpening size v' from v.moment before
-opening_later size v v' from before passes opening = record {
+pub opening_later : (entry v v' : View) → Passes v v' → IsOpening entry v v.moment → IsOpening entry v' v.moment
+opening_later entry v v' passes opening = record {
   later = opening.later;
   images = λ c left. ⊎_elim (λ was. ⊎_elim (λ since. inl (passes.keeps v.moment c (omega arith) since)) (λ near. inr near) (opening.images c was))
-      (λ p. inl (p.1 v.moment (omega arith))) (passes.before from c opening.later left);
+      (λ p. inl (p.1 v.moment (omega arith))) (passes.before entry.moment c opening.later left);
 }

@@ -47,7 +47,7 @@ refused_outcome old new told tells entry store before marks status so read settl
   folder_unread = folder_unread;
   no_marks = no_marks;
   refusal = refusal_untold old new told tells (entry.content 0) status so refusal;
-  opening = λ t. opening_read journal_bytes entry store before (read (so t)) (settled t);
+  opening = λ t. opening_read entry store (read (so t));
   settled = λ t. settled_after_reading journal_bytes entry store before (read (so t)) (settled t);
 }
 

@@ -42,7 +42,7 @@ pub record IsRefused (tells : Bool) (entry store : View) (old new : Outside) (be
   pub folder_unread : new.folder_faults ≡ old.folder_faults
   pub no_marks : marks ≡ []
   pub refusal : Refusal old new tells (entry.content 0) status
-  pub opening : IsTrue tells → IsOpening journal_bytes store entry.moment store.moment before
+  pub opening : IsTrue tells → IsOpening entry store store.moment
   pub settled : IsTrue tells → IsSettled journal_bytes store before
 
 -- The store was opened, and a session followed. At its end the store is settled for the last world: for its history, or for
@@ -52,7 +52,7 @@ pub record IsAnswered (tells : Bool) (budget : ℕ) (entry store : View) (old ne
   pub is_found : IsFound tells before found
   -- the moment at which it was open
   pub opened : ℕ
-  pub opening : IsTrue tells → IsOpening journal_bytes store entry.moment opened before
+  pub opening : IsTrue tells → IsOpening entry store opened
   pub session : IsSession asks_of (λ w. IsTrue tells → IsSettledAs journal_bytes store w) tells journal_bytes budget store (record old { moment = opened }) new (stage_of found) marks status
   -- each acknowledged step is held by whatever a crash left since its mark
   pub acknowledged : IsTrue tells → AreHeld journal_bytes store (stage_after (stage_of found) (session.told ++ session.untold)).world.history marks

@@ -1,9 +1,11 @@
 //! Runs.
 
-ghost use Rattle.std.specs.Prelude.{◌≡◌, ◌≢◌, ◌≤◌, [], false, Bool, IsTrue, List as Seq};
+ghost use Rattle.std.specs.Prelude.{◌≡◌, ◌≢◌, ◌≤◌, ℕ, [], false, Bool, IsTrue, List as Seq};
 ghost use Rattle.input.specs.Reading.{Begins};
 ghost use Rattle.site_history.specs.Steps.{HistoryStep};
+ghost use Rattle.bank.specs.View.{OnlyRead};
 ghost use Rattle.site_history.specs.Images.{IsSettled};
+ghost use Rattle.site_history.specs.Journals.{IsBadJournal};
 ghost use Rattle.engine.specs.StandsFor.{StandsFor};
 ghost use Rattle.session.specs.Asking.{asks_of};
 ghost use Rattle.session.specs.Rounds.{Stage, first_of};
@@ -165,6 +167,8 @@ pub fn run_lines<B: Bank, C: Clock, F: Folder, P: Patterns, I: Source, O: Sink>(
         result.status }
     // The journal of a settled store is never bad.
     ensures good { IsTrue B.tells → (before : Seq HistoryStep) → IsSettled journal_bytes (B.view bank) before → result.status ≢ 2 }
+    // A store whose journal is bad is only read.
+    ensures spared { IsTrue B.tells → (place : ℕ) → IsBadJournal journal_bytes ((B.view bank).content 0) place → OnlyRead (B.view bank) (B.view result.bank) }
     ensures patterns { result.patterns ≡ patterns }
     ensures clock { clock.new ≡ clock.old }
     ensures folder { F.texts folder.new ≡ F.texts folder.old }

@@ -1,6 +1,8 @@
 use Rattle.std.proofs.Common.{◌≡◌, inl, inr, refl, ap, sym, ◌∙◌, subst, ℕ, arith, false, true, IsTrue, []}
 use Rattle.std.proofs.KnownBytes.{Appends-nil}
 use Rattle.bank.specs.View.{OnlyRead}
+use Rattle.site_history.proofs.JournalLaws.{not_bad_journal}
+use Rattle.session.specs.Outcomes.{journal_bytes}
 use Rattle.session.specs.Rounds.{first_of}
 use Rattle.session.proofs.Handing.{handed, answered_status}
 use Rattle.session.proofs.Refusals.{shut_outcome, shut_status, refused_outcome}
@@ -59,3 +61,13 @@ returns-clause-status g c = answered_status false c.args.budget _ _ _ _ [] _ _ g
 
 pub returns-clause-good : goal.returns-clause-good
 returns-clause-good g c = λ tells before settled. never_bad g.B.Bank.tells (g.B.Bank.view c.args.bank) c.args.budget _ _ _ before (returns-clause-status g c) tells settled
+
+-- a bad journal shuts the store
+pub returns-in-Err-clause-spared : goal.returns-in-Err-clause-spared
+returns-in-Err-clause-spared g c = λ tells place bad. c.in-Err.ensures.unchanged tells
+
+pub returns-in_default-clause-spared : goal.returns-in_default-clause-spared
+returns-in_default-clause-spared g c = λ tells place bad. absurd (not_bad_journal journal_bytes _ (c.in-Ok.ensures.journal tells).0 place (c.in-Ok.ensures.journal tells).1 bad)
+
+pub returns-clause-spared : goal.returns-clause-spared
+returns-clause-spared g c = λ tells place bad. absurd (not_bad_journal journal_bytes _ (c.in-Ok.ensures.journal tells).0 place (c.in-Ok.ensures.journal tells).1 bad)
