@@ -8,7 +8,7 @@ use Rattle.journal.specs.declared.refusal.JournalRefusal.TheVariants.{BadRecord}
 use Rattle.journal.specs.State.{JournalState}
 use Rattle.journal.proofs.RecordLaws.{end-within}
 use Rattle.journal.proofs.Held.{records-front, records-back}
-use Rattle.site_history.specs.Images.{written_forms}
+use Rattle.site_history.specs.Histories.{written_forms}
 use Rattle.site_history.specs.Journals.{IsBadJournal}
 use Rattle.site_history.proofs.JournalLaws.{end_of-history}
 use Rattle.site_state.specs.declared.state.SiteState.{SiteState}

@@ -126,10 +126,10 @@ impl<B: Bank, P: Drop> Engine<B, P> {
     }
 
     /// One event. Its moment is the greater of the clock and the lesser of `now` and 2^40 - 1. Where a reopening is due it
-    /// comes first.
+    /// comes first, and leads to the history that the journal holds when it is called.
     pub fn event(&mut self, event: &Event, now: u64) -> Reply
         ensures turn { (told : Bool) → (IsTrue told → IsTrue B.tells) → (w : World) → StandsFor told B.view self.old w
-            → (w' : World) × EventTurn self.old.journal.size told w event.now now (B.last_fault self.new.bank) result w' × Moves told B.view self.old self.new w w' }
+            → (w' : World) × EventTurn self.old.journal.size told w event.now now (B.last_fault self.new.bank) ((B.view self.old.bank).content 0) result w' × Moves told B.view self.old self.new w w' }
         ensures fault { result ≡ Reply.BankFault → Rose (B.faults self.old.bank) (B.faults self.new.bank) }
         ensures later { B.faults self.old.bank ≤ B.faults self.new.bank }
         ensures bad_journal { IsTrue B.tells → RepliesJournal self.old.journal.size ((B.view self.new.bank).content 0) result }

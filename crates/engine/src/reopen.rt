@@ -5,7 +5,7 @@ ghost use Rattle.base.specs.Causes.{Rose};
 ghost use Rattle.bank.specs.View.{OnlyRead, OnlyContent};
 ghost use Rattle.journal.specs.Records.{HoldsRecords};
 ghost use Rattle.site_history.specs.Steps.{HistoryStep};
-ghost use Rattle.site_history.specs.Images.{written_forms};
+ghost use Rattle.site_history.specs.Histories.{written_forms};
 ghost use Rattle.engine.specs.Journals.{TellsJournal, cause_of};
 ghost use Rattle.engine.specs.Replayed.{IsReplayed};
 

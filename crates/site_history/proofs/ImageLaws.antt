@@ -6,8 +6,8 @@ use Rattle.bank.specs.View.{View, IsImage, IsSound, OnlyContent}
 use Rattle.bank.proofs.Spans.{Stands-same}
 use Rattle.journal.proofs.Held.{agreeing_holds, fresh_holds}
 use Rattle.site_history.specs.Steps.{HistoryStep}
-use Rattle.site_history.specs.Histories.{after, IsHistory}
-use Rattle.site_history.specs.Images.{Extent, extents, AllStand, written_forms, Reads, SameAt, AgreeingReadAlike, IsSettled}
+use Rattle.site_history.specs.Histories.{after, IsHistory, written_forms}
+use Rattle.site_history.specs.Images.{Extent, extents, AllStand, Reads, SameAt, AgreeingReadAlike, IsSettled}
 use Rattle.site_history.specs.Pinned.{StandInAll, IsPinned}
 
 -- An image with this content in one area, and elsewhere what a read gives.

@@ -1,14 +1,13 @@
 -- What an image of the store says of a site.
-use Rattle.std.specs.Prelude.{◌≡◌, ◌⊎◌, ℕ, ◌+◌, ◌*◌, ◌<◌, Some, List, [], ◌∷◌, ◌++◌, length, take, drop, map, flat_map}
+use Rattle.std.specs.Prelude.{◌≡◌, ◌⊎◌, ℕ, ◌+◌, ◌*◌, ◌<◌, Some, List, [], ◌∷◌, ◌++◌, length, take, drop, flat_map}
 use Rattle.bank.specs.Content.{Image, Stands}
 use Rattle.bank.specs.View.{View, IsImage}
 use Rattle.journal.specs.Records.{HoldsRecords}
 use Rattle.records.specs.declared.file.FileRec.{FileRec}
 use Rattle.records.specs.declared.file.Run.{Run}
-use Rattle.records.specs.Written.{written}
 use Rattle.site_history.specs.Site.{FileBytes, Site, bytes_of}
 use Rattle.site_history.specs.Steps.{HistoryStep}
-use Rattle.site_history.specs.Histories.{after, IsHistory}
+use Rattle.site_history.specs.Histories.{after, IsHistory, written_forms}
 use Rattle.site_history.specs.Worlds.{World}
 
 -- bytes at a place of an area
@@ -33,10 +32,6 @@ extents site = flat_map (extents_of site.contents) site.fields.files
 abbrev pub AllStand : Image → List Extent → Type 0
 AllStand c [] = Unit {0}
 AllStand c (e ∷ es) = Stands (c e.area) e.place e.bytes × AllStand c es
-
--- the written forms of a history
-abbrev pub written_forms : List HistoryStep → List (List ℕ)
-written_forms steps = map (λ (made : HistoryStep). written made.step) steps
 
 -- The image reads as this history: its journal, in an area of this size, holds the written forms of its steps, and the bytes
 -- of each file stand at its runs.

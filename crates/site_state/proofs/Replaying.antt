@@ -10,8 +10,7 @@ use Rattle.records.specs.declared.step.StepKind.TheVariants.{Put}
 use Rattle.records.specs.Written.{written}
 use Rattle.site_history.specs.Site.{Site, Fields, first_fields}
 use Rattle.site_history.specs.Steps.{HistoryStep, fields_after, IsLegal, HasBytes}
-use Rattle.site_history.specs.Histories.{after}
-use Rattle.site_history.specs.Images.{written_forms}
+use Rattle.site_history.specs.Histories.{after, written_forms}
 use Rattle.site_history.proofs.HistoryLaws.{after-push, history-push}
 use Rattle.site_history.proofs.Commits.{written_forms-push}
 use Rattle.site_state.specs.declared.state.SiteState.{SiteState}

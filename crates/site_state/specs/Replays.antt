@@ -5,8 +5,7 @@ use Rattle.records.specs.declared.step.Step.{Step}
 use Rattle.records.specs.Written.{written}
 use Rattle.site_history.specs.Site.{Fields}
 use Rattle.site_history.specs.Steps.{HistoryStep, IsLegal}
-use Rattle.site_history.specs.Histories.{after, IsHistory}
-use Rattle.site_history.specs.Images.{written_forms}
+use Rattle.site_history.specs.Histories.{after, IsHistory, written_forms}
 use Rattle.site_state.specs.declared.state.SiteState.{SiteState}
 use Rattle.site_state.specs.declared.prepare.Prepared.{Prepared}
 use Rattle.site_state.specs.declared.replays.ReplayRefusal.{ReplayRefusal}
