@@ -42,7 +42,11 @@ abbrev refusal_by : Bool → Bool → Option FileRefusal → Option Reply
 refusal_by files within wrong = cond files (Some (Refused Running)) (cond (not within) (Some (Refused TooLarge)) (option_map conf_refused wrong))
 
 same_refusal : (one other : FileRefusal) → conf_refused one ≡ conf_refused other → one ≡ other
-same_refusal one other e = cc
+same_refusal one other e =
+    let file : one.file ≡ other.file = cc in
+    let line : one.line ≡ other.line = cc in
+    let fault : one.fault ≡ other.fault = cc in
+    λ i. record { file = file i; line = line i; fault = fault i }
 
 told_by : (files within : Bool) (wrong : Option FileRefusal) (refusal : FileRefusal) → refusal_by files within wrong ≡ Some (conf_refused refusal) → (files ≡ false) × (within ≡ true) × (wrong ≡ Some refusal)
 told_by true within wrong refusal e = absurd cc
