@@ -37,7 +37,7 @@ calm_turn size told history event moment area reply w' turn calm =
     subst (λ (c : Course). TurnBy c told (answer_in size history moment event) history moment reply w') (calm_goes reply area calm) turn
 
 -- Where no reopening is due, an event is a turn.
-turn_at_rest : (size : ℕ) (told : Bool) (w : World) (event : Event) (now area : ℕ) (journal : Content) (reply : Reply) (w' : World) → w.due ≡ false → EventTurn size told w event now area journal reply w'
+pub turn_at_rest : (size : ℕ) (told : Bool) (w : World) (event : Event) (now area : ℕ) (journal : Content) (reply : Reply) (w' : World) → w.due ≡ false → EventTurn size told w event now area journal reply w'
     → Turn size told w.history event (moment_of w.clock now) area reply w'
 turn_at_rest size told w event now area journal reply w' rest turn = subst (λ (due : Bool). EventTurnBy due size told w event now area journal reply w') rest turn
 

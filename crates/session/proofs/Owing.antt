@@ -26,7 +26,7 @@ rests_alike w w' e h = (ap (λ (x : World). x.due) e ∙ h.0, ap (λ (x : World)
 
 -- A fault of the store elsewhere leaves nothing open.
 fault_elsewhere : (in_journal told : Bool) (answer : Answer) (history : List HistoryStep) (moment : ℕ) (w' : World) → TurnBy (if in_journal then Owes else Stays) told answer history moment BankFault w'
-    → (if in_journal then 1 else 0) ≡ 0 → Rests w'
+    → ◌≡◌ {A = ℕ} (if in_journal then 1 else 0) 0 → Rests w'
 fault_elsewhere true told answer history moment w' turn none = absurd (omega (arith, none))
 fault_elsewhere false told answer history moment w' turn none = (ap (λ (x : World). x.due) turn, ap (λ (x : World). x.owed) turn)
 

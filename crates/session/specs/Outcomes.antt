@@ -1,5 +1,5 @@
 -- What a whole call does.
-use Rattle.std.specs.Prelude.{◌≡◌, ◌≤◌, ◌<◌, ◌⊎◌, ℕ, List, [], ◌++◌, length, Bool, true, false, IsTrue, None, IfSome}
+use Rattle.std.specs.Prelude.{◌≡◌, ◌≤◌, ◌<◌, ◌⊎◌, ℕ, List, [], ◌++◌, length, Bool, true, IsTrue, None, IfSome}
 use Rattle.std.specs.List.{list_all}
 use Rattle.std.specs.Io.KnownBytes.{Appends, IsAtEnd}
 use Rattle.base.specs.Causes.{Rose}
@@ -65,8 +65,8 @@ pub record IsAnswered (tells : Bool) (budget : ℕ) (entry store : View) (old ne
       × (IsTrue (list_all (is_told old.folder) (asks_of bytes true))
       → Appends old.written new.written (output_of journal_bytes (texts_told old.folder) (stage_of found) (asks_of bytes true))))
 
--- What a call does; `tells` is whether the store tells its content. `told` is whether that is taken, which is then settled for a
--- history before the call: it was answered over that history, or the opening was refused and the store is as settled as before.
+-- What a call does; `tells` is whether the store tells its content. Where `told` that is made use of: the store was then settled
+-- for this history before the call. It was opened, and a session followed; or it was refused, and is as settled as before.
 abbrev pub IsOutcome : Bool → Bool → ℕ → View → View → Outside → Outside → List HistoryStep → List Mark → ℕ → Type 0
 IsOutcome told tells budget entry store old new before marks status = IsAnswered told budget entry store old new before marks status
     ⊎ (IsRefused tells entry store old new marks status × (IsTrue told → IsSettled journal_bytes store before))

@@ -43,9 +43,9 @@ IsEvent size told stage event area journal reply stage' =
     (w' : World) × EventTurn size told stage.world event stage.now area journal reply w' × (stage' ≡ record { world = w'; now = stage.now })
 
 -- One round from a stage, over a journal of this size; `told` is whether the store tells its content, `folder` what the folder
--- tells, `area` that of the store's last fault, and `journal` what the journal's area read when it began. An event is one of the machine. `at` moves the run's moment on. `configure` is the event of the texts that were
--- read of the folder; where they could not be read, all stays. Or no memory was found to read the line. What is asked otherwise
--- is no command.
+-- tells, `area` that of the store's last fault, and `journal` what the journal's area read when the round began. An event is one
+-- of the machine. `at` moves the run's moment on. `configure` is the event of the texts that were read of the folder; where they
+-- could not be read, all stays. Or no memory was found to read the line. What is asked otherwise is no command.
 abbrev pub IsRoundOf : ℕ → Bool → Option (List NamedText) → Stage → Request → ℕ → Content → Reply → Stage → Type 0
 IsRoundOf size told folder stage (Err refusal) area journal reply stage' = Answers (Line refusal) stage reply stage'
 IsRoundOf size told folder stage (Ok (One event)) area journal reply stage' = ((reply ≡ NoMemory) × (stage' ≡ stage)) ⊎ IsEvent size told stage event area journal reply stage'
