@@ -64,7 +64,8 @@ fn is_listed(fail: &[FailAt], calls: &[Call], area: u32, kind: BankCall) -> bool
 
 impl MemoryBank {
     ghost use Rattle.bank.specs.declared.call.Call.{Call};
-    ghost use Rattle.bank.specs.Past.{IsImageAt, LeftSince};
+    ghost use Rattle.bank.specs.Past.{IsImageAt, LeftSince, view_of};
+    ghost use Rattle.bank.specs.View.{OnlyContent};
     ghost use Rattle.bank.specs.Crash.{picked};
     ghost use Rattle.bank.specs.Memory.{began, past_of, past_at, IsAnew, Records};
 
@@ -99,6 +100,9 @@ impl MemoryBank {
         ensures left { IfOk result (λ m. (t : ℕ) → t ≤ length (past_at self.now moment) → LeftSince (began self.now) (past_of self.now) t (began m)) }
         ensures picked { IfOk result (λ m. (a k : ℕ) → began m a k ≡ picked pick (began self.now) (past_at self.now moment) a k) }
         ensures anew { IfOk result (λ m. IsAnew m []) }
+        // It reads as that image, and a crash leaves what it reads.
+        ensures content { IfOk result (λ m. (view_of (began m) (past_of m)).content ≡ began m) }
+        ensures only { IfOk result (λ m. (area : ℕ) → OnlyContent area (view_of (began m) (past_of m))) }
     {
         let alloc = self.alloc;
         let count = self.calls.len().min(moment as usize);

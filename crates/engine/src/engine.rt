@@ -6,7 +6,7 @@ ghost use Rattle.bank.specs.Content.{Content};
 ghost use Rattle.bank.specs.View.{OnlyRead};
 ghost use Rattle.records.specs.declared.event.Event.TheVariants.{Configure as ConfigureEvent};
 ghost use Rattle.records.specs.declared.file.SiteTexts.{SiteTexts as Texts};
-ghost use Rattle.configuration.specs.Says.{Says};
+ghost use Rattle.configuration.specs.ConfigurationRules.{Says};
 ghost use Rattle.site_history.specs.Steps.{HistoryStep};
 ghost use Rattle.site_history.specs.Histories.{after};
 ghost use Rattle.site_history.specs.Worlds.{World, Turn, EventTurn, at, moment_of, new_world, IsFound, RefusesReopening, TellsConfiguration};

@@ -11,8 +11,9 @@ use Rattle.records.specs.declared.reply.Reply.TheVariants.{Bytes, ConfRefused, R
 use Rattle.records.specs.declared.reply.Rule.TheVariants.{TooLarge, Running}
 use Rattle.records.specs.declared.step.StepKind.TheVariants.{Configured}
 use Rattle.configuration.specs.declared.read.FileRefusal.{FileRefusal}
-use Rattle.configuration.specs.Readings.{AreWithin, are_within, refusal_of}
-use Rattle.configuration.specs.Says.{IsFirstWrong}
+use Rattle.configuration.specs.ConfigurationRules.{AreWithin}
+use Rattle.configuration.specs.ConfigurationSteps.{are_within, refusal_of}
+use Rattle.configuration.specs.ConfigurationRules.{IsFirstWrong}
 use Rattle.configuration.proofs.Laws.{within-all, wrong-refused, refused-wrong}
 use Rattle.site_history.specs.Steps.{HistoryStep}
 use Rattle.site_history.specs.Histories.{after}

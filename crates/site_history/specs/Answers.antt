@@ -14,8 +14,9 @@ use Rattle.records.specs.declared.file.FileRec.{FileRec}
 use Rattle.records.specs.declared.file.SiteTexts.{SiteTexts}
 use Rattle.base.specs.Paths.{is_legal_path, is_legal_name}
 use Rattle.configuration.specs.declared.read.FileRefusal.{FileRefusal}
-use Rattle.configuration.specs.Readings.{AreWithin, are_within, refusal_of}
-use Rattle.configuration.specs.Says.{IsFirstWrong}
+use Rattle.configuration.specs.ConfigurationRules.{AreWithin}
+use Rattle.configuration.specs.ConfigurationSteps.{are_within, refusal_of}
+use Rattle.configuration.specs.ConfigurationRules.{IsFirstWrong}
 use Rattle.cache_space.specs.Blocks.{blocks_for, free_blocks, lowest_runs}
 use Rattle.site_history.specs.Site.{Fields, FileBytes, Site, file_at, held_runs, bytes_of, cache_blocks}
 use Rattle.site_history.specs.Steps.{HistoryStep, PutOf, inode_for}

@@ -40,11 +40,6 @@ pub record Reads (size : ℕ) (c : Image) (steps : List HistoryStep) : Type 0 wh
   pub records : HoldsRecords (c 0) 0 (written_forms steps) size
   pub bytes : AllStand c (extents (after steps))
 
--- What the store reads is an image of this history, and so is each image that a crash may leave.
-pub record IsFirm (size : ℕ) (v : View) (steps : List HistoryStep) : Type 0 where
-  pub now : Reads size v.content steps
-  pub each : (c : Image) → IsImage v c → Reads size c steps
-
 -- the image reads as the history, as that without its last step, or as that with one further step
 abbrev pub ReadsNear : ℕ → List HistoryStep → Image → Type 0
 ReadsNear size steps c = Reads size c steps
