@@ -53,6 +53,6 @@ all_put copies =
     let second : with_copy (copies ++ m1) 2 ≡ copies ++ m2 = one_more copies m1 2 (not_there (is_named copies 1) 1 2 refl) in
     let third : with_copy (copies ++ m2) 3 ≡ copies ++ m3 = one_more copies m2 3 (not_behind m1 (is_named copies 2) 2 3 (not_there (is_named copies 1) 1 3 refl) refl) in
     let fourth : with_copy (copies ++ m3) 4 ≡ copies ++ (m3 ++ missing copies 4) =
-        one_more copies m3 4 (not_behind m2 (is_named copies 3) 3 4 (not_behind m1 (is_named copies 2) 2 4 (not_there (is_named copies 1) 1 4 refl) refl) refl) in
+    one_more copies m3 4 (not_behind m2 (is_named copies 3) 3 4 (not_behind m1 (is_named copies 2) 2 4 (not_there (is_named copies 1) 1 4 refl) refl) refl) in
     ap (λ (c : List ℕ). with_copy (with_copy (with_copy c 2) 3) 4) first ∙ ap (λ (c : List ℕ). with_copy (with_copy c 3) 4) second ∙ ap (λ (c : List ℕ). with_copy c 4) third ∙ fourth
     ∙ ap (λ (m : List ℕ). copies ++ m) (all_kept copies)

@@ -42,12 +42,7 @@ fn reopened(
 }
 
 // The journal behind all records in so many bytes.
-fn journal_of(
-    rt: &impl Abort,
-    alloc: Global,
-    bank: &mut MemoryBank,
-    size: u64,
-) -> Option<Journal> {
+fn journal_of(rt: &impl Abort, alloc: Global, bank: &mut MemoryBank, size: u64) -> Option<Journal> {
     assert!(rt; size <= 268435456);
     let mut reader = Reader::open(alloc, bank, size).ok()?;
     for _ in 0..100 {

@@ -46,7 +46,8 @@ film1.1 li -pool daily
 endvsns
 ";
 
-const WANT: &[u8] = b"|a 6 no_archive Site tmp Default Default|a 7 rushes Site rushes min=1024 Default Default\
+const WANT: &[u8] =
+    b"|a 6 no_archive Site tmp Default Default|a 7 rushes Site rushes min=1024 Default Default\
     |a 10 finals Site finals Default Default|a 14 sound Site sound name=\\.wav$ Default Default\
     |a 17 small Site . max=65536 Default Default\
     |s no_archive|s rushes 1@600n 2@3600n|s finals 1@0 2@1800 3@86400|s sound 1@240+7776000 2@3600|s small 1@240|s film1 1@240\

@@ -24,7 +24,8 @@ const LEVELS: &[u8] = b"a .\nb x\nparams\n\
     a.1 -rsort size\na.2 -recycle_ignore -reserve group -recycle_hwm 100 -archmax 4M\na.2 -archmax 3M\nendparams\n\
     vsnpools\np lj C\nendvsnpools\nvsns\na.1 li X\nallsets.2 li Z\na.2 li -pool p\nendvsns\n";
 
-const TEXT_SAYS: &[u8] = b"|a 4 no_archive Site tmp Default Default|a 5 rushes Site rushes min=1024 Default Default\
+const TEXT_SAYS: &[u8] =
+    b"|a 4 no_archive Site tmp Default Default|a 5 rushes Site rushes min=1024 Default Default\
     |a 8 finals Site finals Default Default|a 12 sound Site sound name=\\.wav$ Default Default\
     |a 15 small Site . max=65536 Default Default\
     |s no_archive|s rushes 1@600n 2@3600n|s finals 1@0 2@1800 3@86400|s sound 1@240+7776000 2@3600|s small 1@240|s film1 1@240\
