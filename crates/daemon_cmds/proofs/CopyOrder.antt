@@ -1,7 +1,6 @@
 -- The copies that are not named, put behind the others one by one.
-use Rattle.std.proofs.Common.{◌≡◌, ℕ, ◌==◌, Bool, true, false, not, ◌||◌, List, [], ◌∷◌, ◌++◌, filter, refl, sym, ap, ◌∙◌, append_assoc}
+use Rattle.std.proofs.Common.{◌≡◌, ℕ, ◌==◌, Bool, true, false, not, List, [], ◌∷◌, ◌++◌, filter, refl, sym, ap, ◌∙◌, append_assoc}
 use Rattle.std.specs.Prelude.{if◌then◌else◌}
-use Rattle.std.specs.List.{list_any}
 use Rattle.std.proofs.lemmas.List.{append-nil}
 use Rattle.std.proofs.lemmas.List.Folds.{list_any-append}
 use Rattle.daemon_cmds.specs.StagerRules.{is_named, completed}
@@ -53,6 +52,6 @@ all_put copies =
     let second : with_copy (copies ++ m1) 2 ≡ copies ++ m2 = one_more copies m1 2 (not_there (is_named copies 1) 1 2 refl) in
     let third : with_copy (copies ++ m2) 3 ≡ copies ++ m3 = one_more copies m2 3 (not_behind m1 (is_named copies 2) 2 3 (not_there (is_named copies 1) 1 3 refl) refl) in
     let fourth : with_copy (copies ++ m3) 4 ≡ copies ++ (m3 ++ missing copies 4) =
-        one_more copies m3 4 (not_behind m2 (is_named copies 3) 3 4 (not_behind m1 (is_named copies 2) 2 4 (not_there (is_named copies 1) 1 4 refl) refl) refl) in
+    one_more copies m3 4 (not_behind m2 (is_named copies 3) 3 4 (not_behind m1 (is_named copies 2) 2 4 (not_there (is_named copies 1) 1 4 refl) refl) refl) in
     ap (λ (c : List ℕ). with_copy (with_copy (with_copy c 2) 3) 4) first ∙ ap (λ (c : List ℕ). with_copy (with_copy c 3) 4) second ∙ ap (λ (c : List ℕ). with_copy c 4) third ∙ fourth
     ∙ ap (λ (m : List ℕ). copies ++ m) (all_kept copies)
