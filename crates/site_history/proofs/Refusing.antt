@@ -1,24 +1,23 @@
 -- A command file is refused by the relation: what the answer to a configuration tells is the first file that is wrong.
-use Rattle.std.proofs.Common.{◌≡◌, ◌⊎◌, inl, inr, ⊎_elim, ℕ, Bool, true, false, not, cond, List, [], ◌∷◌, length, refl, sym, ◌∙◌, ap, subst, arith, Option, Some, None}
-use Rattle.std.specs.Prelude.{nat_lt, option_map}
+use Rattle.std.proofs.Common.{◌≡◌, ◌⊎◌, inl, inr, ⊎_elim, ℕ, Bool, true, false, not, cond, List, [], length, refl, sym, ◌∙◌, ap, subst, arith, Option, Some, None}
+use Rattle.std.specs.Prelude.{option_map}
 use Rattle.std.proofs.lemmas.Bool.{ltb-false}
 use Rattle.std.proofs.lemmas.List.{nil_from_length}
 use Rattle.bank.specs.Content.{Content}
 use Rattle.records.specs.declared.event.Event.TheVariants.{Configure as ConfigureEvent}
 use Rattle.records.specs.declared.file.SiteTexts.{SiteTexts}
 use Rattle.records.specs.declared.reply.Reply.{Reply}
-use Rattle.records.specs.declared.reply.Reply.TheVariants.{Done, Bytes, ConfRefused, Refused, JournalFull, BankFault, NoMemory}
+use Rattle.records.specs.declared.reply.Reply.TheVariants.{Bytes, ConfRefused, Refused, JournalFull, BankFault, NoMemory}
 use Rattle.records.specs.declared.reply.Rule.TheVariants.{TooLarge, Running}
 use Rattle.records.specs.declared.step.StepKind.TheVariants.{Configured}
 use Rattle.configuration.specs.declared.read.FileRefusal.{FileRefusal}
 use Rattle.configuration.specs.Readings.{AreWithin, are_within, refusal_of}
 use Rattle.configuration.specs.Says.{IsFirstWrong}
 use Rattle.configuration.proofs.Laws.{within-all, wrong-refused, refused-wrong}
-use Rattle.site_history.specs.Site.{Fields, Site}
 use Rattle.site_history.specs.Steps.{HistoryStep}
 use Rattle.site_history.specs.Histories.{after}
 use Rattle.site_history.specs.Answers.{Answer, bare_step, conf_refused, has_files, configure_refusal, configure_answer_by, TellsFirstWrong}
-use Rattle.site_history.specs.Worlds.{World, has_room, answer_in, moment_of, clock_from, IsReply, Course, Goes, Stays, Owes, course_of, TurnBy, Turn, IsReopened, RefusesReopening, IsServedOver, TellsConfiguration, EventTurnBy, EventTurn}
+use Rattle.site_history.specs.Worlds.{World, has_room, answer_in, moment_of, clock_from, IsReply, Course, Goes, course_of, TurnBy, Turn, IsServedOver, TellsConfiguration, EventTurnBy, EventTurn}
 use Rattle.site_history.proofs.Configuring.{configure-wrong}
 
 -- A reply as defined, or a fault or want of memory.
@@ -42,11 +41,11 @@ abbrev refusal_by : Bool → Bool → Option FileRefusal → Option Reply
 refusal_by files within wrong = cond files (Some (Refused Running)) (cond (not within) (Some (Refused TooLarge)) (option_map conf_refused wrong))
 
 same_refusal : (one other : FileRefusal) → conf_refused one ≡ conf_refused other → one ≡ other
-same_refusal one other e =
-    let file : one.file ≡ other.file = cc in
-    let line : one.line ≡ other.line = cc in
-    let fault : one.fault ≡ other.fault = cc in
-    λ i. record { file = file i; line = line i; fault = fault i }
+same_refusal one other e = ap told e
+  where
+    told : Reply → FileRefusal
+    told (ConfRefused file line fault) = record { file = file; line = line; fault = fault }
+    told _ = one
 
 told_by : (files within : Bool) (wrong : Option FileRefusal) (refusal : FileRefusal) → refusal_by files within wrong ≡ Some (conf_refused refusal) → (files ≡ false) × (within ≡ true) × (wrong ≡ Some refusal)
 told_by true within wrong refusal e = absurd cc

@@ -7,7 +7,7 @@ use Rattle.configuration.specs.Readings.{refusal_of}
 use Rattle.records.specs.Texts.{no_texts}
 use Rattle.configuration.specs.Says.{TellsRefusal}
 use Rattle.configuration.proofs.Laws.{no_texts-read}
-use Rattle.site_state.proofs.replays.first_site.Goals as goal
+use Rattle.site_state.proofs.state.SiteState.first.Goals as goal
 
 -- no text is never refused
 never_refused : (texts : SiteTexts) (error : ConfigurationError) (refusal : FileRefusal) → texts ≡ no_texts → error ≡ Refused refusal → TellsRefusal texts error → ⊥
