@@ -291,7 +291,13 @@ fn a_bad_journal_is_told_and_only_read(rt: HostRuntime) -> Result<(), Fail> {
         assert!(rt; used.write(0, 0, &record).is_ok());
         let bank = expect(&rt, alloc, used, case)?;
         let calls = bank.calls();
-        assert_eq!(rt; calls.iter().filter(|call| call.kind == BankCall::Write).count(), 1);
+        assert_eq!(rt;
+            calls
+                .iter()
+                .filter(|call| call.kind == BankCall::Write)
+                .count(),
+            1
+        );
     }
     Ok(())
 }
