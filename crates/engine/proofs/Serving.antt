@@ -6,13 +6,15 @@ use Rattle.bank.specs.View.{View, IsImage, LeavesOnly}
 use Rattle.bank.proofs.Moments.{weakened, joined}
 use Rattle.journal.specs.State.{JournalState}
 use Rattle.records.specs.declared.event.Event.{Event}
-use Rattle.records.specs.declared.event.Event.TheVariants.{Put as PutEvent}
+use Rattle.records.specs.declared.event.Event.TheVariants.{Put as PutEvent, Configure as ConfigureEvent}
+use Rattle.records.specs.declared.file.SiteTexts.{SiteTexts}
 use Rattle.records.specs.declared.reply.Reply.{Reply}
 use Rattle.site_history.specs.Site.{Fields}
 use Rattle.site_history.specs.Steps.{HistoryStep}
 use Rattle.site_history.specs.Histories.{after}
-use Rattle.site_history.specs.Worlds.{World, at, moment_of, Turn, IsReopened, clock_from, RefusesReopening, EventTurnBy, EventTurn}
+use Rattle.site_history.specs.Worlds.{World, at, moment_of, Turn, IsReopened, clock_from, RefusesReopening, EventTurnBy, EventTurn, TellsConfiguration}
 use Rattle.site_history.specs.Images.{Reads, ReadsAs}
+use Rattle.site_history.proofs.Refusing.{tells_configuration}
 use Rattle.engine.specs.declared.kept.Engine.{Engine}
 use Rattle.site_state.specs.Keeps.{Keeps}
 use Rattle.engine.specs.StandsFor.{StandsFor, Moves, IsRecovered, StaysFor}
@@ -129,3 +131,9 @@ event_refused told view old new w s due size event now area reply refuses stays 
 -- A put of the same bytes is the same event.
 pub same_put : (path owner group bytes a b c d : List ℕ) → a ≡ path → b ≡ owner → c ≡ group → d ≡ bytes → PutEvent a b c d ≡ PutEvent path owner group bytes
 same_put path owner group bytes a b c d e f g h = cc
+
+-- An event that configures the site tells the first command file that is wrong.
+pub asked_told : (size : ℕ) (told : Bool) (w : World) (event : Event) (texts : SiteTexts) (now area : ℕ) (read : Content) (reply : Reply) (w' : World)
+    → event ≡ ConfigureEvent texts → EventTurn size told w event now area read reply w' → TellsConfiguration size told w read texts reply
+asked_told size told w event texts now area read reply w' is turn =
+    tells_configuration size told w texts now area read reply w' (subst (λ (e : Event). EventTurn size told w e now area read reply w') is turn)

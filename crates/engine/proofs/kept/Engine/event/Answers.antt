@@ -1,8 +1,4 @@
-use Rattle.std.proofs.Common.{subst}
-use Rattle.records.specs.declared.event.Event.{Event}
-use Rattle.site_history.specs.Worlds.{EventTurn}
-use Rattle.site_history.proofs.Refusing.{tells_configuration}
-use Rattle.engine.proofs.Serving.{event_at_rest, event_reopened, event_refused}
+use Rattle.engine.proofs.Serving.{event_at_rest, event_reopened, event_refused, asked_told}
 use Rattle.engine.proofs.kept.Engine.event.Goals as goal
 
 pub returns-in-Ok-clause-turn : goal.returns-in-Ok-clause-turn
@@ -29,17 +25,14 @@ returns-else-self-clause-bad_journal g c = λ tells. c.serve_at-else-self.ensure
 pub returns-in-Ok-clause-wrong_file : goal.returns-in-Ok-clause-wrong_file
 returns-in-Ok-clause-wrong_file g c = λ told tells w s texts is.
     let turn = returns-in-Ok-clause-turn g c told tells w s in
-    tells_configuration c.args.self.now.journal.size told w texts c.args.now _ ((g.B.Bank.view c.args.self.now.bank).content 0) _ turn.0
-    (subst (λ (event : Event). EventTurn c.args.self.now.journal.size told w event c.args.now _ ((g.B.Bank.view c.args.self.now.bank).content 0) _ turn.0) is turn.1)
+    asked_told c.args.self.now.journal.size told w c.args.event.now texts c.args.now _ ((g.B.Bank.view c.args.self.now.bank).content 0) _ turn.0 is turn.1
 
 pub returns-in-Err-clause-wrong_file : goal.returns-in-Err-clause-wrong_file
 returns-in-Err-clause-wrong_file g c = λ told tells w s texts is.
     let turn = returns-in-Err-clause-turn g c told tells w s in
-    tells_configuration c.args.self.now.journal.size told w texts c.args.now _ ((g.B.Bank.view c.args.self.now.bank).content 0) _ turn.0
-    (subst (λ (event : Event). EventTurn c.args.self.now.journal.size told w event c.args.now _ ((g.B.Bank.view c.args.self.now.bank).content 0) _ turn.0) is turn.1)
+    asked_told c.args.self.now.journal.size told w c.args.event.now texts c.args.now _ ((g.B.Bank.view c.args.self.now.bank).content 0) _ turn.0 is turn.1
 
 pub returns-else-self-clause-wrong_file : goal.returns-else-self-clause-wrong_file
 returns-else-self-clause-wrong_file g c = λ told tells w s texts is.
     let turn = returns-else-self-clause-turn g c told tells w s in
-    tells_configuration c.args.self.now.journal.size told w texts c.args.now _ ((g.B.Bank.view c.args.self.now.bank).content 0) _ turn.0
-    (subst (λ (event : Event). EventTurn c.args.self.now.journal.size told w event c.args.now _ ((g.B.Bank.view c.args.self.now.bank).content 0) _ turn.0) is turn.1)
+    asked_told c.args.self.now.journal.size told w c.args.event.now texts c.args.now _ ((g.B.Bank.view c.args.self.now.bank).content 0) _ turn.0 is turn.1
