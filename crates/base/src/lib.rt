@@ -5,4 +5,4 @@ mod bytes;
 mod names;
 
 pub use bytes::{Bytes, List};
-pub use names::{is_legal_name, is_legal_path};
+pub use names::{is_legal_below_root, is_legal_name, is_legal_path};

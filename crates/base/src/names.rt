@@ -1,6 +1,6 @@
 //! Which texts may name a file, an owner or a group.
 
-ghost use Rattle.std.specs.Prelude.{◌≡◌, ◌==◌};
+ghost use Rattle.std.specs.Prelude.{◌≡◌, ◌==◌, ◌∷◌};
 ghost use Rattle.std.specs.List.{list_all, slice_split};
 ghost use Rattle.std.specs.Str.{chars};
 ghost use Rattle.base.specs.Paths.{is_path_char, is_part, parts, is_legal_path, is_name_char, is_legal_name, begins_with_slash, is_of_length, is_plain_text};
@@ -78,6 +78,14 @@ pub fn is_legal_path(path: &[u8]) -> bool
     ensures { result ≡ is_legal_path path.now }
 {
     is_of_length(2, 1024, path) && is_plain_text(path) && begins_with_slash(path) && has_parts(path)
+}
+
+/// Whether this text with a `/` before it is the path of a file: at most 1,023 bytes.
+#[tactic(auto, using(crate::proofs::BelowRoot::below_root))]
+pub fn is_legal_below_root(rest: &[u8]) -> bool
+    ensures { result ≡ is_legal_path (47 ∷ rest.now) }
+{
+    is_of_length(1, 1023, rest) && is_plain_text(rest) && are_parts(rest)
 }
 
 fn is_name_char(c: u8) -> bool

@@ -1,5 +1,4 @@
-//! What no clause says: that the calls succeed, and tables made by hand from the forms of the four files. Each text is read by the
-//! reader and by the plain slow one.
+//! What no clause says: that the calls succeed, and tables made by hand from the forms of the four files.
 
 use base::Bytes;
 use site_text::{ConfError, ConfFault, ConfRefusal};

@@ -31,8 +31,10 @@ impl<B: Bank, P: Drop> Engine<B, P> {
         ensures owed { (told : Bool) → (IsTrue told → IsTrue B.tells) → (history : Seq HistoryStep) → (made : HistoryStep) → made.step ≡ prepared.step → IsReady told B.view self.old history made
             → OnErr result (Moves told B.view self.old self.new (at history self.old.clock) (owing history self.old.clock made)) }
         ensures fault { OnErr result (Rose (B.faults self.old.bank) (B.faults self.new.bank)) }
+        ensures journal_fault { OnErr result (Rose (B.journal_faults self.old.bank) (B.journal_faults self.new.bank)) }
         ensures area { OnErr result (B.last_fault self.new.bank ≡ 0) }
         ensures later { B.faults self.old.bank ≤ B.faults self.new.bank }
+        ensures journal_later { B.journal_faults self.old.bank ≤ B.journal_faults self.new.bank }
         ensures open { OnOk result (self.new.due ≡ false) }
         ensures due { OnErr result (self.new.due ≡ true) }
         ensures size { self.new.journal.size ≡ self.old.journal.size }

@@ -1,7 +1,6 @@
 //! Puts.
 
 ghost use Rattle.std.specs.Prelude.{◌≡◌, ◌≢◌, ◌+◌, ◌<◌, ◌≤◌, ◌^◌, ◌++◌, [], ◌∷◌, ℕ, Bool, List as Seq, IsTrue, false, length, IfOk, OnOk};
-ghost use Rattle.base.specs.Causes.{Rose};
 ghost use Rattle.base.specs.Paths.{is_legal_path, is_legal_name};
 ghost use Rattle.site_types.specs.Ranges.{IsInode};
 ghost use Rattle.step_codec.specs.Written.{written, InRange};
@@ -18,6 +17,7 @@ ghost use Rattle.engine.specs.Ready.{IsUnmoved};
 ghost use Rattle.site_state.specs.Keeps.{Keeps};
 ghost use Rattle.site_state.specs.Room.{IsPrepared};
 ghost use Rattle.bank.specs.Content.{Content};
+ghost use Rattle.engine.specs.Counts.{IsRepliedFor};
 ghost use Rattle.engine.specs.Journals.{RepliesJournal};
 ghost use Rattle.engine.specs.StandsFor.{StandsFor, Moves};
 
@@ -26,7 +26,7 @@ use crate::kept::Engine;
 use crate::payload::write_payload;
 use bank::Bank;
 use base::Bytes;
-use site_types::{Run, Step, StepKind};
+use site_types::{PutStep, Run, Step, StepKind};
 use site_events::Reply;
 use site_state::{Place, Prepared};
 use std::alloc::AllocError;
@@ -36,7 +36,7 @@ fn runs_of(step: &Step) -> &[Run]
     ensures { result.now ≡ put_runs step.now }
 {
     match &step.kind {
-        StepKind::Put { runs, .. } => runs.as_slice(),
+        StepKind::Put(put) => put.runs.as_slice(),
         _ => &[],
     }
 }
@@ -66,14 +66,14 @@ impl<B: Bank, P: Drop> Engine<B, P> {
         let runs = self.site.free_runs(size)?;
         let step = Step {
             moment: self.clock,
-            kind: StepKind::Put {
+            kind: StepKind::Put(PutStep {
                 inode: place.inode,
                 path: Bytes::from_slice(self.alloc, path)?,
                 owner: Bytes::from_slice(self.alloc, owner)?,
                 group: Bytes::from_slice(self.alloc, group)?,
                 length: size as u64,
                 runs,
-            },
+            }),
         };
         write_payload(&step, &mut self.payload)?;
         self.site.make_room()?;
@@ -88,8 +88,7 @@ impl<B: Bank, P: Drop> Engine<B, P> {
         requires { self.old.due ≡ false }
         ensures turn { (told : Bool) → (IsTrue told → IsTrue B.tells) → (history : Seq HistoryStep) → StandsFor told B.view self.old (at history self.old.clock)
             → (w : World) × Turn self.old.journal.size told history (PutEvent path.now owner.now group.now bytes.now) self.old.clock (B.last_fault self.new.bank) result w × Moves told B.view self.old self.new (at history self.old.clock) w }
-        ensures fault { result ≡ Reply.BankFault → Rose (B.faults self.old.bank) (B.faults self.new.bank) }
-        ensures later { B.faults self.old.bank ≤ B.faults self.new.bank }
+        ensures causes { IsRepliedFor B.faults B.journal_faults B.last_fault self.old.bank self.new.bank result }
         ensures ready { result ≢ Reply.BankFault → self.new.due ≡ false }
         ensures journal { (size : ℕ) (c : Content) → RepliesJournal size c result }
         ensures size { self.new.journal.size ≡ self.old.journal.size }

@@ -73,8 +73,7 @@ distinct_without inode (file ∷ files) h = by_test (not (file.inode == inode)) 
     by_test false rest = rest
 
 distinct_effect : (fields : Fields) (moment : ℕ) (kind : StepKind) → AreDistinct fields.files → AreDistinct (fields_after (record { moment = moment; kind = kind }) fields).files
-distinct_effect fields moment (Put inode path owner group size runs) h =
-    distinct_with (stored_file (file_at path fields.files) moment (record { inode = inode; path = path; owner = owner; group = group; length = size; runs = runs })) fields.files h
+distinct_effect fields moment (Put put) h = distinct_with (stored_file (file_at put.path fields.files) moment put) fields.files h
 distinct_effect fields moment (Accessed inode) h = distinct_accessed moment inode fields.files h
 distinct_effect fields moment (Removed inode) h = distinct_without inode fields.files h
 distinct_effect fields moment _ h = h

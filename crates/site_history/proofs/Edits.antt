@@ -6,12 +6,13 @@
 use Rattle.std.proofs.Common.{◌≡◌, ℕ, ◌+◌, ◌<◌, List, [], ◌∷◌, ◌++◌, length, get_or, set, refl, sym, ◌∙◌, ap, subst, Bool, Option, Some, None}
 use Rattle.std.specs.Option.{option_map_or}
 use Rattle.std.specs.List.{remove}
+use Rattle.site_types.specs.declared.step.PutStep.{PutStep}
 use Rattle.site_types.specs.declared.file.FileRec.{FileRec}
 use Rattle.site_types.specs.declared.file.SiteTexts.{SiteTexts}
-use Rattle.configuration.specs.Readings.{blocks_of}
+use Rattle.configuration.specs.ConfigurationSteps.{blocks_of}
 use Rattle.cache_space.specs.Space.{taken_by, AreApart}
 use Rattle.site_history.specs.Site.{Fields, Site, file_at, held_runs, with_file, cache_blocks}
-use Rattle.site_history.specs.Steps.{PutOf, stored_file, put_effect, accessed_effect, removed_effect, configured_effect}
+use Rattle.site_history.specs.Steps.{stored_file, put_effect, accessed_effect, removed_effect, configured_effect}
 use Rattle.site_history.proofs.FileLaws.{AreBelow, with_file-new, with_file-set, accessed-set, without_file-remove}
 use Rattle.site_history.proofs.HeldRuns.{Holds, Gives, pushed-space, replaced-space, removed-space, same-space}
 use Rattle.site_history.proofs.SiteLaws.{IsOrderly}
@@ -31,22 +32,22 @@ configured_edit fields moment texts new none free = record { files = refl; next_
 
 module _ (count : ℕ) (site : Site) (orderly : IsOrderly count site) (moment : ℕ) where
   -- a new file joins the others
-  pub put_new-files : (put : PutOf) → file_at put.path site.fields.files ≡ None → put.inode ≡ site.fields.next_inode
+  pub put_new-files : (put : PutStep) → file_at put.path site.fields.files ≡ None → put.inode ≡ site.fields.next_inode
       → site.fields.files ++ stored_file None moment put ∷ [] ≡ (put_effect moment put site.fields).files
   put_new-files put none inode =
       sym (ap (λ (o : Option FileRec). with_file (stored_file o moment put) site.fields.files) none
       ∙ with_file-new (stored_file None moment put) site.fields.files (subst (λ (n : ℕ). AreBelow n site.fields.files) (sym inode) orderly.below))
 
   -- the next inode is used up by a new file, and by no other
-  pub put_new-next : (put : PutOf) → file_at put.path site.fields.files ≡ None → site.fields.next_inode + 1 ≡ (put_effect moment put site.fields).next_inode
+  pub put_new-next : (put : PutStep) → file_at put.path site.fields.files ≡ None → site.fields.next_inode + 1 ≡ (put_effect moment put site.fields).next_inode
   put_new-next put none = ap (λ (o : Option FileRec). option_map_or (λ (f : FileRec). site.fields.next_inode) o (site.fields.next_inode + 1)) (sym none)
 
-  pub put_replaced-next : (put : PutOf) (file : FileRec) → file_at put.path site.fields.files ≡ Some file → site.fields.next_inode ≡ (put_effect moment put site.fields).next_inode
+  pub put_replaced-next : (put : PutStep) (file : FileRec) → file_at put.path site.fields.files ≡ Some file → site.fields.next_inode ≡ (put_effect moment put site.fields).next_inode
   put_replaced-next put file some = ap (λ (o : Option FileRec). option_map_or (λ (f : FileRec). site.fields.next_inode) o (site.fields.next_inode + 1)) (sym some)
 
   module _ (i : ℕ) (d : FileRec) (lt : i < length site.fields.files) where
     -- a file takes the place of the one that is replaced
-    pub put_replaced-files : (put : PutOf) → file_at put.path site.fields.files ≡ Some (get_or site.fields.files i d)
+    pub put_replaced-files : (put : PutStep) → file_at put.path site.fields.files ≡ Some (get_or site.fields.files i d)
         → set site.fields.files i (stored_file (Some (get_or site.fields.files i d)) moment put) ≡ (put_effect moment put site.fields).files
     put_replaced-files put some =
         sym (ap (λ (o : Option FileRec). with_file (stored_file o moment put) site.fields.files) some
@@ -62,7 +63,7 @@ module _ (count : ℕ) (site : Site) (orderly : IsOrderly count site) (moment : 
 
 module _ (count : ℕ) (site : Site) (orderly : IsOrderly count site) (moment : ℕ) (old : List Bool) (taken : old ≡ taken_by (cache_blocks site.fields) (held_runs site.fields.files)) where
   -- a new file joins the others, and its runs are held
-  pub put_new : (put : PutOf) (new : List Bool) → file_at put.path site.fields.files ≡ None → put.inode ≡ site.fields.next_inode → Holds old new put.runs
+  pub put_new : (put : PutStep) (new : List Bool) → file_at put.path site.fields.files ≡ None → put.inode ≡ site.fields.next_inode → Holds old new put.runs
       → IsEdit (site.fields.files ++ stored_file None moment put ∷ []) (site.fields.next_inode + 1) moment new (put_effect moment put site.fields)
   put_new put new none inode holds =
       let e = put_new-files count site orderly moment put none inode in
@@ -76,7 +77,7 @@ module _ (count : ℕ) (site : Site) (orderly : IsOrderly count site) (moment : 
 
   module _ (i : ℕ) (d : FileRec) (lt : i < length site.fields.files) where
     -- a file is replaced: its new runs are held, and then its old ones given
-    pub put_replaced : (put : PutOf) (between new : List Bool) → file_at put.path site.fields.files ≡ Some (get_or site.fields.files i d)
+    pub put_replaced : (put : PutStep) (between new : List Bool) → file_at put.path site.fields.files ≡ Some (get_or site.fields.files i d)
         → AreApart put.runs (held_runs site.fields.files) → Holds old between put.runs → Gives between new (get_or site.fields.files i d).runs
         → IsEdit (set site.fields.files i (stored_file (Some (get_or site.fields.files i d)) moment put)) site.fields.next_inode moment new (put_effect moment put site.fields)
     put_replaced put between new some apart holds gives =

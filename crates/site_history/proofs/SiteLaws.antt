@@ -11,12 +11,13 @@ use Rattle.std.proofs.lemmas.Slice.Eq.{bytes_eq-Decides}
 use Rattle.site_types.specs.declared.file.FileRec.{FileRec}
 use Rattle.site_types.specs.declared.file.Run.{Run}
 use Rattle.site_types.specs.declared.file.SiteTexts.{SiteTexts}
+use Rattle.site_types.specs.declared.step.PutStep.{PutStep}
 use Rattle.site_types.specs.declared.step.StepKind.{StepKind}
 use Rattle.site_types.specs.declared.step.StepKind.TheVariants.{Configured, Put, Accessed, Removed}
 use Rattle.base.specs.Paths.{is_legal_path, is_legal_name}
 use Rattle.site_types.specs.Ranges.{IsInode}
 use Rattle.step_codec.proofs.InRange.{ranges}
-use Rattle.configuration.specs.Readings.{blocks_of}
+use Rattle.configuration.specs.ConfigurationSteps.{blocks_of}
 use Rattle.site_types.specs.Texts.{no_texts}
 use Rattle.configuration.proofs.Laws.{blocks-range}
 use Rattle.cache_space.specs.Blocks.{blocks_for}
@@ -24,7 +25,7 @@ use Rattle.cache_space.specs.Space.{AreThere, AreDisjoint, AreMaximal, blocks_in
 use Rattle.cache_space.proofs.HeldBlocks.{AreThere-nil}
 use Rattle.cache_space.proofs.LowestRuns.{AreMaximal-disjoint}
 use Rattle.site_history.specs.Site.{FileBytes, Site, first_site, file_at, held_runs, with_file, with_bytes, bytes_of, cache_blocks}
-use Rattle.site_history.specs.Steps.{HistoryStep, PutOf, stored_file, put_effect, accessed_by, without_file, without_bytes, configured_effect, effect, IsLegalPut, IsLegal, HasBytes, IsThere}
+use Rattle.site_history.specs.Steps.{HistoryStep, stored_file, put_effect, accessed_by, without_file, without_bytes, configured_effect, effect, IsLegalPut, IsLegal, HasBytes, IsThere}
 use Rattle.site_history.specs.Histories.{after, IsHistory}
 use Rattle.site_history.proofs.HistoryLaws.{history-counts}
 use Rattle.site_history.proofs.FileLaws.{AreBelow, AreRisingFrom, are_below-more, with_file-new, with_file-set, without_file-remove, rising_at, below_at, rising-push, rising-set, rising-accessed, rising-without, all-push, all-below, all-set, all-accessed, all-without, all_at, length-without}
@@ -107,7 +108,7 @@ site_with files next moment texts contents = record { fields = record { files = 
 
 module _ (count : ℕ) (site : Site) (orderly : IsOrderly count site) (later : ℕ) (in_time : site.fields.moment ≤ later) (in_range : later < 2 ^ 40) where
   -- a put of a new file
-  module _ (put : PutOf) (bytes : List ℕ) (legal : IsLegalPut site.fields put) (has : length bytes ≡ put.length) where
+  module _ (put : PutStep) (bytes : List ℕ) (legal : IsLegalPut site.fields put) (has : length bytes ≡ put.length) where
     abbrev put_bytes : FileBytes
     put_bytes = record { inode = put.inode; bytes = bytes }
 
@@ -268,9 +269,8 @@ module _ (count : ℕ) (site : Site) (orderly : IsOrderly count site) (later : �
 step_orderly : (count : ℕ) (site : Site) (moment : ℕ) (kind : StepKind) (bytes : List ℕ) → IsOrderly count site
     → IsLegal site.fields (record { moment = moment; kind = kind }) → HasBytes (record { step = record { moment = moment; kind = kind }; bytes = bytes })
     → IsOrderly (count + 1) (effect (record { step = record { moment = moment; kind = kind }; bytes = bytes }) site)
-step_orderly count site moment (Put inode path owner group size runs) bytes orderly legal has =
-    put_orderly count site orderly moment legal.1 (ranges (record { moment = moment; kind = Put inode path owner group size runs }) legal.0).0
-    (record { inode = inode; path = path; owner = owner; group = group; length = size; runs = runs }) bytes legal.2 has
+step_orderly count site moment (Put put) bytes orderly legal has =
+    put_orderly count site orderly moment legal.1 (ranges (record { moment = moment; kind = Put put }) legal.0).0 put bytes legal.2 has
 step_orderly count site moment (Accessed inode) bytes orderly legal has =
     accessed_orderly count site orderly moment legal.1 (ranges (record { moment = moment; kind = Accessed inode }) legal.0).0 inode
 step_orderly count site moment (Removed inode) bytes orderly legal has =

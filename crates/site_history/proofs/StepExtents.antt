@@ -6,10 +6,11 @@ use Rattle.std.proofs.lemmas.Bool.{cases_eq, eq-eqb, ne_eqb}
 use Rattle.std.proofs.lemmas.List.{take_all}
 use Rattle.bank.specs.View.{View}
 use Rattle.site_types.specs.declared.file.FileRec.{FileRec}
+use Rattle.site_types.specs.declared.step.PutStep.{PutStep}
 use Rattle.site_types.specs.declared.step.StepKind.{StepKind}
 use Rattle.site_types.specs.declared.step.StepKind.TheVariants.{Configured, Put, Accessed, Removed}
 use Rattle.site_history.specs.Site.{FileBytes, Site, file_at, with_file, with_bytes, bytes_of}
-use Rattle.site_history.specs.Steps.{HistoryStep, PutOf, stored_file, inode_for, accessed_by, without_file, without_bytes, put_effect, effect, IsLegal, HasBytes}
+use Rattle.site_history.specs.Steps.{HistoryStep, stored_file, inode_for, accessed_by, without_file, without_bytes, put_effect, effect, IsLegal, HasBytes}
 use Rattle.site_history.specs.Images.{Extent, extents_over, extents_of, extents}
 use Rattle.site_history.specs.Pinned.{StandInAll, put_extents}
 use Rattle.site_history.proofs.Extents.{stand_append, stand_front, stand_back}
@@ -89,16 +90,16 @@ module _ (v : View) where
   ]
 
 -- The file of a put has its inode, its runs and as many cached bytes as its length.
-stored_inode : (o : Option FileRec) (moment next : ℕ) (put : PutOf) → put.inode ≡ option_map_or (λ (file : FileRec). file.inode) o next → (stored_file o moment put).inode ≡ put.inode
+stored_inode : (o : Option FileRec) (moment next : ℕ) (put : PutStep) → put.inode ≡ option_map_or (λ (file : FileRec). file.inode) o next → (stored_file o moment put).inode ≡ put.inode
 stored_inode None moment next put is = refl
 stored_inode (Some file) moment next put is = sym is
 
-stored_extents : (o : Option FileRec) (moment : ℕ) (put : PutOf) (bytes : List ℕ) → length bytes ≡ put.length
+stored_extents : (o : Option FileRec) (moment : ℕ) (put : PutStep) (bytes : List ℕ) → length bytes ≡ put.length
     → extents_over (stored_file o moment put).runs (take (stored_file o moment put).cached bytes) ≡ extents_over put.runs bytes
 stored_extents None moment put bytes long = ap (λ (l : List ℕ). extents_over put.runs l) (take_all put.length bytes (omega (arith, long)))
 stored_extents (Some file) moment put bytes long = ap (λ (l : List ℕ). extents_over put.runs l) (take_all put.length bytes (omega (arith, long)))
 
-pub put_stands : (v : View) (moment : ℕ) (put : PutOf) (bytes : List ℕ) (site : Site) → AreDistinct site.fields.files → put.inode ≡ inode_for site.fields put.path → length bytes ≡ put.length
+pub put_stands : (v : View) (moment : ℕ) (put : PutStep) (bytes : List ℕ) (site : Site) → AreDistinct site.fields.files → put.inode ≡ inode_for site.fields put.path → length bytes ≡ put.length
     → StandInAll v (extents site) → StandInAll v (extents_over put.runs bytes)
     → StandInAll v (extents (record { fields = put_effect moment put site.fields; contents = with_bytes (record { inode = put.inode; bytes = bytes }) site.contents }))
 put_stands v moment put bytes site distinct inode long h ready =
@@ -115,8 +116,8 @@ effect_stands v made site distinct legal bytes h ready = by_kind made.step.kind 
     by_kind : (kind : StepKind) (moment : ℕ) (l : List ℕ) → IsLegal site.fields (record { moment = moment; kind = kind })
         → HasBytes (record { step = record { moment = moment; kind = kind }; bytes = l }) → StandInAll v (put_extents (record { step = record { moment = moment; kind = kind }; bytes = l }))
         → StandInAll v (extents (effect (record { step = record { moment = moment; kind = kind }; bytes = l }) site))
-    by_kind (Put inode path owner group size runs) moment l legal long ready =
-        put_stands v moment (record { inode = inode; path = path; owner = owner; group = group; length = size; runs = runs }) l site distinct legal.2.inode long h ready
+    by_kind (Put put) moment l legal long ready =
+        put_stands v moment put l site distinct legal.2.inode long h ready
     by_kind (Accessed inode) moment l legal long ready = accessed_stands v moment inode site.contents site.fields.files h
     by_kind (Removed inode) moment l legal long ready = removed_stands v inode site.contents site.fields.files h
     by_kind (Configured texts) moment l legal long ready = h

@@ -13,19 +13,20 @@ use Rattle.site_types.specs.Ranges.{IsRun, IsInode}
 use Rattle.step_codec.specs.Written.{written, InRange}
 use Rattle.step_codec.proofs.Lengths.{length-written, written_some}
 use Rattle.step_codec.proofs.InRange.{in_range}
+use Rattle.site_types.specs.declared.step.PutStep.{PutStep}
 use Rattle.site_types.specs.declared.step.Step.{Step}
 use Rattle.site_types.specs.declared.step.StepKind.{StepKind}
 use Rattle.site_types.specs.declared.step.StepKind.TheVariants.{Configured, Put, Accessed, Removed}
-use Rattle.configuration.specs.Readings.{AreWithin}
+use Rattle.configuration.specs.ConfigurationRules.{AreWithin}
 use Rattle.cache_space.specs.Blocks.{blocks_for}
 use Rattle.journal.specs.Records.{IsPayload}
 use Rattle.site_history.specs.Site.{Fields}
-use Rattle.site_history.specs.Steps.{PutOf, IsLegal}
+use Rattle.site_history.specs.Steps.{IsLegal}
 use Rattle.site_history.proofs.RunRanges.{maximal-few}
 
 -- the step of a put
-abbrev pub step_of : ℕ → PutOf → Step
-step_of moment put = record { moment = moment; kind = Put put.inode put.path put.owner put.group put.length put.runs }
+abbrev pub step_of : ℕ → PutStep → Step
+step_of moment put = record { moment = moment; kind = Put put }
 
 -- a legal path has at most 1,024 bytes, and a legal name 32
 pub path_short : (path : List ℕ) → is_legal_path path ≡ true → length path ≤ 1024
@@ -37,7 +38,7 @@ unfolding is_legal_name
 name_short name e = grind (arith, nat_tests, e)
 
 -- a put of so few runs
-module _ (put : PutOf) (small : put.length ≤ 16777216) (legal_path : IsTrue (is_legal_path put.path)) (legal_owner : IsTrue (is_legal_name put.owner)) (legal_group : IsTrue (is_legal_name put.group))
+module _ (put : PutStep) (small : put.length ≤ 16777216) (legal_path : IsTrue (is_legal_path put.path)) (legal_owner : IsTrue (is_legal_name put.owner)) (legal_group : IsTrue (is_legal_name put.group))
     (few : length put.runs ≤ blocks_for put.length) where
   pub put_in_range : (moment : ℕ) → moment < 2 ^ 40 → IsInode put.inode → AllByRecursion IsRun put.runs → InRange (step_of moment put)
   put_in_range moment range inode fit = in_range (step_of moment put) range (
@@ -83,9 +84,9 @@ pub short-payload : (step : Step) → step_length step ≤ 1048576 → IsPayload
 short-payload step short = (written_some step, omega (arith, length-written step, short))
 
 legal_short : (fields : Fields) (moment : ℕ) (kind : StepKind) → IsLegal fields (record { moment = moment; kind = kind }) → step_length (record { moment = moment; kind = kind }) ≤ 1048576
-legal_short fields moment (Put inode path owner group size runs) legal =
-    put_short (record { inode = inode; path = path; owner = owner; group = group; length = size; runs = runs }) legal.2.small legal.2.path legal.2.owner legal.2.group
-    (omega (arith, maximal-few runs legal.2.maximal, legal.2.blocks)) moment
+legal_short fields moment (Put put) legal =
+    put_short put legal.2.small legal.2.path legal.2.owner legal.2.group
+    (omega (arith, maximal-few put.runs legal.2.maximal, legal.2.blocks)) moment
 legal_short fields moment (Accessed inode) legal = accessed_short moment inode
 legal_short fields moment (Removed inode) legal = removed_short moment inode
 legal_short fields moment (Configured texts) legal = configured-short moment texts legal.2.within

@@ -188,7 +188,7 @@ module _ (size : ℕ) (told : Bool) (history : List HistoryStep) (event : Event)
 
 effect-moment : (site : Site) (moment : ℕ) (kind : StepKind) (bytes : List ℕ) → IsLegal site.fields (record { moment = moment; kind = kind })
     → (effect (record { step = record { moment = moment; kind = kind }; bytes = bytes }) site).fields.moment ≡ moment
-effect-moment site moment (Put inode path owner group size runs) bytes legal = refl
+effect-moment site moment (Put put) bytes legal = refl
 effect-moment site moment (Accessed inode) bytes legal = refl
 effect-moment site moment (Removed inode) bytes legal = refl
 effect-moment site moment (Configured texts) bytes legal = refl

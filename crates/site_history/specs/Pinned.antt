@@ -8,8 +8,8 @@ use Rattle.site_types.specs.declared.step.StepKind.{StepKind}
 use Rattle.site_types.specs.declared.step.StepKind.TheVariants.{Put}
 use Rattle.cache_space.specs.Blocks.{is_in_runs}
 use Rattle.site_history.specs.Steps.{HistoryStep}
-use Rattle.site_history.specs.Histories.{after}
-use Rattle.site_history.specs.Images.{Extent, extents, extents_over, written_forms}
+use Rattle.site_history.specs.Histories.{after, written_forms}
+use Rattle.site_history.specs.Images.{Extent, extents, extents_over}
 
 -- each extent stands in whatever a crash leaves of its area
 abbrev pub StandInAll : View → List Extent → Type 0
@@ -39,5 +39,5 @@ abbrev pub put_extents : HistoryStep → List Extent
 put_extents made = by_kind made.step.kind
   where
     by_kind : StepKind → List Extent
-    by_kind (Put inode path owner group size runs) = extents_over runs made.bytes
+    by_kind (Put put) = extents_over put.runs made.bytes
     by_kind _ = []

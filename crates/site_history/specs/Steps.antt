@@ -7,13 +7,15 @@ use Rattle.site_types.specs.declared.file.Run.{Run}
 use Rattle.site_types.specs.declared.file.SiteTexts.{SiteTexts}
 use Rattle.site_types.specs.declared.file.ReleaseKind.{ReleaseKind}
 use Rattle.site_types.specs.declared.file.StageKind.{StageKind}
+use Rattle.site_types.specs.declared.step.PutStep.{PutStep}
 use Rattle.site_types.specs.declared.step.Step.{Step}
 use Rattle.site_types.specs.declared.step.StepKind.{StepKind}
 use Rattle.site_types.specs.declared.step.StepKind.TheVariants.{Configured, Put, Accessed, Removed}
 use Rattle.site_types.specs.Copies.{no_copies}
 use Rattle.base.specs.Paths.{is_legal_path, is_legal_name}
 use Rattle.step_codec.specs.Written.{InRange}
-use Rattle.configuration.specs.Readings.{AreWithin, refusal_of}
+use Rattle.configuration.specs.ConfigurationRules.{AreWithin}
+use Rattle.configuration.specs.ConfigurationSteps.{refusal_of}
 use Rattle.cache_space.specs.Blocks.{blocks_for}
 use Rattle.cache_space.specs.Space.{AreFree, AreMaximal, blocks_in}
 use Rattle.site_history.specs.Site.{Fields, FileBytes, Site, file_at, held_runs, with_file, with_bytes, cache_blocks}
@@ -23,19 +25,10 @@ pub record HistoryStep : Type 0 where
   pub step : Step
   pub bytes : List ℕ
 
--- what a put stores
-pub record PutOf : Type 0 where
-  pub inode : ℕ
-  pub path : List ℕ
-  pub owner : List ℕ
-  pub group : List ℕ
-  pub length : ℕ
-  pub runs : List Run
-
 -- The file that a put leaves: a new one, or one whose bytes, owner and group are replaced. It is whole, and its three
 -- moments are that of the put. A replaced file keeps its attributes and its copies, which are those of an earlier
 -- generation from then on.
-abbrev pub stored_file : Option FileRec → ℕ → PutOf → FileRec
+abbrev pub stored_file : Option FileRec → ℕ → PutStep → FileRec
 stored_file None moment put = record {
   inode = put.inode;
   path = put.path;
@@ -73,7 +66,7 @@ inode_for fields path = option_map_or (λ (file : FileRec). file.inode) (file_at
 abbrev pub next_after : Fields → List ℕ → ℕ
 next_after fields path = option_map_or (λ (file : FileRec). fields.next_inode) (file_at path fields.files) (fields.next_inode + 1)
 
-abbrev pub put_effect : ℕ → PutOf → Fields → Fields
+abbrev pub put_effect : ℕ → PutStep → Fields → Fields
 put_effect moment put fields = record {
   files = with_file (stored_file (file_at put.path fields.files) moment put) fields.files;
   next_inode = next_after fields put.path;
@@ -108,8 +101,7 @@ fields_after step fields = by_kind step.kind
   where
     by_kind : StepKind → Fields
     by_kind (Configured texts) = configured_effect step.moment texts fields
-    by_kind (Put inode path owner group length runs) = put_effect step.moment
-        (record { inode = inode; path = path; owner = owner; group = group; length = length; runs = runs }) fields
+    by_kind (Put put) = put_effect step.moment put fields
     by_kind (Accessed inode) = accessed_effect step.moment inode fields
     by_kind (Removed inode) = removed_effect step.moment inode fields
     by_kind _ = fields
@@ -119,7 +111,7 @@ abbrev pub contents_after : HistoryStep → List FileBytes → List FileBytes
 contents_after made contents = by_kind made.step.kind
   where
     by_kind : StepKind → List FileBytes
-    by_kind (Put inode path owner group length runs) = with_bytes (record { inode = inode; bytes = made.bytes }) contents
+    by_kind (Put put) = with_bytes (record { inode = put.inode; bytes = made.bytes }) contents
     by_kind (Removed inode) = without_bytes inode contents
     by_kind _ = contents
 
@@ -128,7 +120,7 @@ effect made site = record { fields = fields_after made.step site.fields; content
 
 -- A put may come where path and names are legal, the length is at most 16,777,216 bytes, the inode is that of the path's
 -- file or the next one, where a further file fits, and the runs are maximal runs of free blocks, as many as the length needs.
-pub record IsLegalPut (fields : Fields) (put : PutOf) : Type 0 where
+pub record IsLegalPut (fields : Fields) (put : PutStep) : Type 0 where
   pub path : IsTrue (is_legal_path put.path)
   pub owner : IsTrue (is_legal_name put.owner)
   pub group : IsTrue (is_legal_name put.group)
@@ -155,7 +147,7 @@ IsLegal fields step = InRange step × (fields.moment ≤ step.moment) × by_kind
   where
     by_kind : StepKind → Type 0
     by_kind (Configured texts) = IsLegalConfiguration fields texts
-    by_kind (Put inode path owner group length runs) = IsLegalPut fields (record { inode = inode; path = path; owner = owner; group = group; length = length; runs = runs })
+    by_kind (Put put) = IsLegalPut fields put
     by_kind (Accessed inode) = IsThere fields inode
     by_kind (Removed inode) = IsThere fields inode
     by_kind _ = ⊥
@@ -165,5 +157,5 @@ abbrev pub HasBytes : HistoryStep → Type 0
 HasBytes made = by_kind made.step.kind
   where
     by_kind : StepKind → Type 0
-    by_kind (Put inode path owner group size runs) = length made.bytes ≡ size
+    by_kind (Put put) = length made.bytes ≡ put.length
     by_kind _ = made.bytes ≡ []

@@ -4,11 +4,12 @@ use Rattle.std.specs.Prelude.{All, ◌==◌, position, slice_get, remove, is_som
 use Rattle.std.specs.List.{list_any}
 use Rattle.std.specs.Option.{option_map_or}
 use Rattle.std.specs.Str.{bytes_eq}
+use Rattle.site_types.specs.declared.step.PutStep.{PutStep}
 use Rattle.site_types.specs.declared.file.FileRec.{FileRec}
 use Rattle.site_types.specs.declared.file.Run.{Run}
 use Rattle.cache_space.specs.Space.{taken_by, AreApart}
 use Rattle.site_history.specs.Site.{Fields, Site, file_at, held_runs, with_file, cache_blocks}
-use Rattle.site_history.specs.Steps.{PutOf, stored_file, accessed_by, without_file, IsThere, IsLegalPut, next_after, put_effect}
+use Rattle.site_history.specs.Steps.{stored_file, accessed_by, without_file, IsThere, IsLegalPut, next_after, put_effect}
 use Rattle.site_history.proofs.FileLaws.{with_file-new, with_file-set, accessed-set, without_file-remove, all_at, below_at, AreBelow}
 use Rattle.site_history.proofs.HeldRuns.{held-push, replaced-taken, replaced-apart, removed-taken, removed-apart}
 use Rattle.site_history.proofs.SiteLaws.{IsOrderly, IsKept}
@@ -81,7 +82,7 @@ module _ (count : ℕ) (site : Site) (orderly : IsOrderly count site) (old : Sit
         (sym (without_file-remove 1 inode site.fields.files index at.item orderly.rising within_fields of_inode))
 
   -- a put that is legal
-  module _ (moment : ℕ) (put : PutOf) (legal : IsLegalPut site.fields put) where
+  module _ (moment : ℕ) (put : PutStep) (legal : IsLegalPut site.fields put) where
     -- the effect of a put where the file of its path is known
     put_files : (o : Option FileRec) → file_at put.path site.fields.files ≡ o
         → with_file (stored_file o moment put) site.fields.files ≡ (put_effect moment put site.fields).files

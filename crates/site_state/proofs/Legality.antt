@@ -7,6 +7,7 @@ use Rattle.std.proofs.lemmas.Bool.Decides.{nat_tests}
 use Rattle.site_types.specs.declared.file.FileRec.{FileRec}
 use Rattle.site_types.specs.declared.file.Run.{Run}
 use Rattle.site_types.specs.declared.file.SiteTexts.{SiteTexts}
+use Rattle.site_types.specs.declared.step.PutStep.{PutStep}
 use Rattle.site_types.specs.declared.step.StepKind.{StepKind}
 use Rattle.site_types.specs.declared.step.StepKind.TheVariants.{Configured, Put, Accessed, Removed}
 use Rattle.site_history.specs.Site.{Fields, file_at}
@@ -88,10 +89,10 @@ takes_other fields files path inode next same same_next e differs =
 
 -- a step of a kind that is not served never may come
 pub not_served : (fields : Fields) (moment : ℕ) (kind : StepKind) → ((texts : SiteTexts) → kind ≡ Configured texts → ⊥)
-    → ((inode : ℕ) (path owner group : List ℕ) (size : ℕ) (runs : List Run) → kind ≡ Put inode path owner group size runs → ⊥)
+    → ((put : PutStep) → kind ≡ Put put → ⊥)
     → ((inode : ℕ) → kind ≡ Accessed inode → ⊥) → ((inode : ℕ) → kind ≡ Removed inode → ⊥) → IsLegal fields (record { moment = moment; kind = kind }) → ⊥
 not_served fields moment (Configured texts) configured put accessed removed legal = configured texts refl
-not_served fields moment (Put inode path owner group size runs) configured put accessed removed legal = put inode path owner group size runs refl
+not_served fields moment (Put fields_of_put) configured put accessed removed legal = put fields_of_put refl
 not_served fields moment (Accessed inode) configured put accessed removed legal = accessed inode refl
 not_served fields moment (Removed inode) configured put accessed removed legal = removed inode refl
 not_served fields moment _ configured put accessed removed legal = legal.2

@@ -4,8 +4,8 @@ use Rattle.site_types.specs.declared.file.SiteTexts.{SiteTexts}
 use Rattle.site_types.specs.declared.step.Step.{Step}
 use Rattle.site_types.specs.declared.step.StepKind.{StepKind}
 use Rattle.site_types.specs.declared.step.StepKind.TheVariants.{Configured, Put}
-use Rattle.configuration.specs.Readings.{blocks_of}
-use Rattle.configuration.specs.Says.{Says}
+use Rattle.configuration.specs.ConfigurationSteps.{blocks_of}
+use Rattle.configuration.specs.ConfigurationRules.{Says}
 use Rattle.cache_space.specs.Space.{taken_by}
 use Rattle.site_history.specs.Site.{file_at}
 use Rattle.site_state.specs.declared.state.SiteState.{SiteState}
@@ -18,7 +18,7 @@ abbrev pub HasRoomFor : FileList → Step → Type 0
 HasRoomFor files step = by_kind step.kind
   where
     by_kind : StepKind → Type 0
-    by_kind (Put inode path owner group length runs) = file_at path files.list ≡ None → 0 < files.room
+    by_kind (Put put) = file_at put.path files.list ≡ None → 0 < files.room
     by_kind _ = Unit {0}
 
 -- The texts say this configuration, and all blocks of their cache are free.

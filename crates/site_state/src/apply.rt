@@ -7,23 +7,22 @@ ghost use Rattle.site_types.specs.declared.file.SiteTexts.{SiteTexts};
 ghost use Rattle.site_history.specs.Site.{Fields, file_at};
 ghost use Rattle.site_history.specs.Steps.{HistoryStep, IsLegal, IsLegalPut, IsThere, put_effect, accessed_effect, removed_effect, configured_effect, fields_after};
 ghost use Rattle.site_history.specs.Histories.{after, IsHistory};
-ghost use Rattle.site_state.specs.Fields.{put_of};
 ghost use Rattle.site_state.specs.Room.{IsSettingOf, IsPrepared};
 ghost use Rattle.site_state.specs.Keeps.{Keeps};
 
 use crate::prepare::{Prepared, Setting};
 use crate::state::SiteState;
-use crate::stored::{PutFields, new_file};
-use site_types::{Step, StepKind};
+use crate::stored::new_file;
+use site_types::{PutStep, Step, StepKind};
 
 impl SiteState {
     // Keeps what a put stores. A replaced file's runs are free once the new ones are held.
-    fn apply_put(&mut self, moment: u64, put: PutFields)
+    fn apply_put(&mut self, moment: u64, put: PutStep)
         requires range { moment < 2 ^ 40 }
         requires inode { IsInode put.inode }
         requires room { file_at put.path self.old.files.list ≡ None → 0 < self.old.files.room }
-        ensures { (steps : Seq HistoryStep) → IsHistory steps → length steps + 1 < 2 ^ 64 → Keeps self.old (after steps).fields → IsLegalPut (after steps).fields (put_of put)
-            → Keeps self.new (put_effect moment (put_of put) (after steps).fields) }
+        ensures { (steps : Seq HistoryStep) → IsHistory steps → length steps + 1 < 2 ^ 64 → Keeps self.old (after steps).fields → IsLegalPut (after steps).fields put
+            → Keeps self.new (put_effect moment put (after steps).fields) }
     {
         self.moment = moment;
         self.space.hold(put.runs.as_slice());
@@ -86,24 +85,7 @@ impl SiteState {
         let Prepared { step, setting } = prepared;
         let Step { moment, kind } = step;
         match kind {
-            StepKind::Put {
-                inode,
-                path,
-                owner,
-                group,
-                length,
-                runs,
-            } => {
-                let put = PutFields {
-                    inode,
-                    path,
-                    owner,
-                    group,
-                    length,
-                    runs,
-                };
-                self.apply_put(moment, put);
-            }
+            StepKind::Put(put) => self.apply_put(moment, put),
             StepKind::Accessed { inode } => self.apply_access(moment, inode),
             StepKind::Removed { inode } => self.apply_removal(moment, inode),
             StepKind::Configured(_) => {

@@ -7,15 +7,14 @@ ghost use Rattle.std.specs.Str.{bytes_eq};
 ghost use Rattle.site_types.specs.Ranges.{IsInode};
 ghost use Rattle.site_history.specs.Site.{file_at};
 ghost use Rattle.site_history.specs.Steps.{stored_file};
-ghost use Rattle.site_state.specs.Fields.{put_of};
 ghost use Rattle.site_types.specs.declared.file.FileRec.{FileRec as Rec};
 
 use crate::path_index::{
     index_of_inode, index_of_path, is_above_all, place_for_path, place_of_file,
 };
-use crate::stored::{PutFields, store_over};
+use crate::stored::store_over;
 use base::List;
-use site_types::{FileRec, Run};
+use site_types::{FileRec, PutStep, Run};
 use std::alloc::{AllocError, Global};
 use std::marker::Model;
 
@@ -102,13 +101,14 @@ impl Files {
         self.by_path.reserve(1)
     }
 
-    /// Adds a file of a path that no file has, for which there is room, behind the others. Its inode is above theirs; where it is
-    /// not, nothing is added.
+    /// Adds a file of a path that no file has, for which there is room, behind the others, where its inode is above theirs. Where
+    /// it is not, nothing is added.
     pub fn push(&mut self, file: FileRec)
         requires room { 0 < self.old.room }
         requires inode { IsInode file.inode }
         requires path { file_at file.path self.old.list ≡ None }
-        ensures { All (λ (other : Rec). other.inode < file.inode) self.old.list → self.new.list ≡ self.old.list ++ file ∷ [] }
+        ensures added { All (λ (other : Rec). other.inode < file.inode) self.old.list → self.new.list ≡ self.old.list ++ file ∷ [] }
+        ensures stays { (All (λ (other : Rec). other.inode < file.inode) self.old.list → ⊥) → self.new.list ≡ self.old.list }
     {
         // A new file has the next inode, which is above all that any file had.
         if !is_above_all(&self.items, file.inode) {
@@ -124,10 +124,10 @@ impl Files {
     }
 
     /// Puts what a put stores over the file at an index, whose runs it gives.
-    pub fn store_at(&mut self, index: usize, moment: u64, put: PutFields) -> List<Run>
+    pub fn store_at(&mut self, index: usize, moment: u64, put: PutStep) -> List<Run>
         requires { index < length self.old.list }
         ensures list { (file : Rec) → slice_get self.old.list index ≡ Some file → file.generation + 1 < 2 ^ 64
-            → self.new.list ≡ slice_set self.old.list index (stored_file (Some file) moment (put_of put)) }
+            → self.new.list ≡ slice_set self.old.list index (stored_file (Some file) moment put) }
         ensures runs { (file : Rec) → slice_get self.old.list index ≡ Some file → result ≡ file.runs }
     {
         store_over(&mut self.items[index], moment, put)

@@ -79,17 +79,10 @@ impl SiteState {
         }
         match &step.kind {
             StepKind::Configured(texts) => self.files.len() == 0 && are_within(texts),
-            StepKind::Put {
-                inode,
-                path,
-                owner,
-                group,
-                length,
-                runs,
-            } => {
-                are_legal(path.as_slice(), owner.as_slice(), group.as_slice())
-                    && self.takes_inode(*inode, path.as_slice())
-                    && self.takes_runs(*length, runs.as_slice())
+            StepKind::Put(put) => {
+                are_legal(put.path.as_slice(), put.owner.as_slice(), put.group.as_slice())
+                    && self.takes_inode(put.inode, put.path.as_slice())
+                    && self.takes_runs(put.length, put.runs.as_slice())
             }
             StepKind::Accessed { inode } => self.is_there(*inode),
             StepKind::Removed { inode } => self.is_there(*inode),

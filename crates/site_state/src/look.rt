@@ -6,7 +6,7 @@ ghost use Rattle.std.specs.List.{AllByRecursion};
 ghost use Rattle.site_types.specs.Ranges.{IsInode, IsRun};
 ghost use Rattle.cache_space.specs.Blocks.{blocks_for, free_blocks, lowest_runs};
 ghost use Rattle.cache_space.specs.Space.{AreMaximal};
-ghost use Rattle.configuration.specs.Says.{Says};
+ghost use Rattle.configuration.specs.ConfigurationRules.{Says};
 ghost use Rattle.site_history.specs.Site.{Fields, file_at, held_runs, cache_blocks};
 ghost use Rattle.site_state.specs.Keeps.{Keeps};
 

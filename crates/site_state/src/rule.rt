@@ -6,7 +6,8 @@ ghost use Rattle.site_types.specs.Ranges.{IsInode};
 ghost use Rattle.site_history.specs.Site.{Fields, file_at};
 ghost use Rattle.site_history.specs.Steps.{inode_for};
 ghost use Rattle.site_events.specs.declared.reply.Reply.TheVariants.{Refused};
-ghost use Rattle.configuration.specs.Readings.{AreWithin, refusal_of};
+ghost use Rattle.configuration.specs.ConfigurationRules.{AreWithin};
+ghost use Rattle.configuration.specs.ConfigurationSteps.{refusal_of};
 ghost use Rattle.site_history.specs.Answers.{put_rule, is_full, lacks_space, configure_refusal, conf_refused};
 ghost use Rattle.site_state.specs.Keeps.{Keeps};
 

@@ -2,28 +2,15 @@
 
 ghost use Rattle.std.specs.Prelude.{◌≡◌, ◌+◌, ◌<◌, ◌^◌, None, Some};
 ghost use Rattle.site_history.specs.Steps.{stored_file};
-ghost use Rattle.site_state.specs.Fields.{put_of};
 
-use base::{Bytes, List};
-use site_types::{CopySlots, FileRec, ReleaseKind, Run, StageKind};
-
-/// The fields of a put's step.
-#[derive(Drop)]
-pub struct PutFields {
-    pub inode: u32,
-    pub path: Bytes,
-    pub owner: Bytes,
-    pub group: Bytes,
-    /// In bytes.
-    pub length: u64,
-    pub runs: List<Run>,
-}
+use base::List;
+use site_types::{CopySlots, FileRec, PutStep, ReleaseKind, Run, StageKind};
 
 /// A new file, whole in the cache.
-pub fn new_file(moment: u64, put: PutFields) -> FileRec
-    ensures { result ≡ stored_file None moment (put_of put) }
+pub fn new_file(moment: u64, put: PutStep) -> FileRec
+    ensures { result ≡ stored_file None moment put }
 {
-    let PutFields {
+    let PutStep {
         inode,
         path,
         owner,
@@ -51,13 +38,13 @@ pub fn new_file(moment: u64, put: PutFields) -> FileRec
 }
 
 /// Puts what a put stores over a file, whose runs it gives.
-pub fn store_over(file: &mut FileRec, moment: u64, put: PutFields) -> List<Run>
-    ensures file { file.old.generation + 1 < 2 ^ 64 → file.new ≡ stored_file (Some file.old) moment (put_of put) }
+pub fn store_over(file: &mut FileRec, moment: u64, put: PutStep) -> List<Run>
+    ensures file { file.old.generation + 1 < 2 ^ 64 → file.new ≡ stored_file (Some file.old) moment put }
     ensures inode { file.new.inode ≡ file.old.inode }
     ensures path { file.new.path ≡ file.old.path }
     ensures runs { result ≡ file.old.runs }
 {
-    let PutFields {
+    let PutStep {
         owner,
         group,
         length,

@@ -2,6 +2,7 @@ pub mod Faults
 pub mod Lines
 pub mod Texts
 pub mod Numbers
+pub mod NumberSteps
 pub mod Ages
 pub mod Sizes
 pub mod Weights
@@ -9,10 +10,16 @@ pub mod Fields
 pub mod Words
 pub mod ValueLines
 pub mod Values
+pub mod LastValues
 pub mod Forms
+pub mod FormRules
+pub mod FormSteps
 pub mod Options
-pub mod Files
-pub mod Kinds
+pub mod OptionRules
+pub mod OptionSteps
 pub mod Directives
+pub mod DirectiveRules
+pub mod DirectiveSteps
+pub mod FileRules
+pub mod FileSteps
 pub mod OneMeaning
-pub mod Plain

@@ -1,7 +1,6 @@
 use Rattle.std.proofs.Common.{◌+◌, ◌<◌, ◌^◌, List, length, set, Some, sym, ◌∙◌, ap, subst}
 use Rattle.site_types.specs.declared.file.FileRec.{FileRec}
 use Rattle.site_history.specs.Steps.{stored_file}
-use Rattle.site_state.specs.Fields.{put_of}
 use Rattle.site_state.specs.FileList.{FileList}
 use Rattle.site_state.proofs.Indexed.{file_there, indexed-set}
 use Rattle.site_state.proofs.files.Files.store_at.Goals as goal
@@ -18,7 +17,7 @@ returns-clause-list c = λ file is few.
     ap (λ (l : List FileRec). set l c.args.index c.store_over.new.file) same
     ∙ ap (λ (f : FileRec). set c.args.self.now.list c.args.index f)
     (c.store_over.ensures.file (subst (λ (f : FileRec). f.generation + 1 < 2 ^ 64) (sym here) few)
-    ∙ ap (λ (f : FileRec). stored_file (Some f) c.args.moment (put_of c.args.put)) here)
+    ∙ ap (λ (f : FileRec). stored_file (Some f) c.args.moment c.args.put) here)
 
 pub returns-clause-runs : goal.returns-clause-runs
 returns-clause-runs c = λ file is.
