@@ -24,9 +24,9 @@ use daemon_cmds::{
     RecyclerConf, ReleaserConf, SiteConf, StagerConf, read_recycler, read_releaser, read_site,
     read_stager,
 };
-use site_types::SiteTexts;
 use site_events::CommandFile;
 use site_text::{ConfError, ConfFault};
+use site_types::SiteTexts;
 use std::alloc::Global;
 
 /// The most bytes that a command file may have.

@@ -23,9 +23,9 @@ use crate::kept::Engine;
 use crate::payload::write_payload;
 use bank::Bank;
 use configuration::ConfigurationError;
-use site_types::{SiteTexts, Step, StepKind};
 use site_events::Reply;
 use site_state::{Prepared, Setting};
+use site_types::{SiteTexts, Step, StepKind};
 use std::alloc::AllocError;
 
 impl<B: Bank, P: Drop> Engine<B, P> {

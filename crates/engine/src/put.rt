@@ -26,9 +26,9 @@ use crate::kept::Engine;
 use crate::payload::write_payload;
 use bank::Bank;
 use base::Bytes;
-use site_types::{PutStep, Run, Step, StepKind};
 use site_events::Reply;
 use site_state::{Place, Prepared};
+use site_types::{PutStep, Run, Step, StepKind};
 use std::alloc::AllocError;
 
 // The runs of a put's step.

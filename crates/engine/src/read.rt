@@ -14,9 +14,9 @@ use crate::kept::Engine;
 use crate::payload::write_payload;
 use bank::Bank;
 use base::Bytes;
-use site_types::{Step, StepKind};
 use site_events::{Reply, Rule};
 use site_state::Prepared;
+use site_types::{Step, StepKind};
 
 impl<B: Bank, P: Drop> Engine<B, P> {
     /// Reads the first `upto` bytes of the file of a path. The event's moment is the clock.

@@ -12,9 +12,9 @@ ghost use Rattle.engine.specs.StandsFor.{StandsFor, Moves};
 use crate::kept::Engine;
 use crate::payload::write_payload;
 use bank::Bank;
-use site_types::{Step, StepKind};
 use site_events::{Reply, Rule};
 use site_state::Prepared;
+use site_types::{Step, StepKind};
 
 impl<B: Bank, P: Drop> Engine<B, P> {
     /// Removes the file of a path. The event's moment is the clock.

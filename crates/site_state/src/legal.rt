@@ -80,8 +80,11 @@ impl SiteState {
         match &step.kind {
             StepKind::Configured(texts) => self.files.len() == 0 && are_within(texts),
             StepKind::Put(put) => {
-                are_legal(put.path.as_slice(), put.owner.as_slice(), put.group.as_slice())
-                    && self.takes_inode(put.inode, put.path.as_slice())
+                are_legal(
+                    put.path.as_slice(),
+                    put.owner.as_slice(),
+                    put.group.as_slice(),
+                ) && self.takes_inode(put.inode, put.path.as_slice())
                     && self.takes_runs(put.length, put.runs.as_slice())
             }
             StepKind::Accessed { inode } => self.is_there(*inode),

@@ -14,8 +14,8 @@ use crate::prepare::{Prepared, Setting};
 use crate::state::SiteState;
 use configuration::ConfigurationError;
 use site_types::SiteTexts;
-use step_codec::{StepRefusal, decode_step};
 use std::alloc::{AllocError, Global};
+use step_codec::{StepRefusal, decode_step};
 
 /// Why a payload is not replayed.
 #[derive(Clone, Copy, Debug, PartialEq, Eq)]

@@ -16,8 +16,8 @@ use crate::state::SiteState;
 use base::{is_legal_name, is_legal_path};
 use cache_space::blocks_needed;
 use configuration::are_within;
-use site_types::SiteTexts;
 use site_events::Rule;
+use site_types::SiteTexts;
 
 /// Where a put goes.
 #[derive(Clone, Copy)]
