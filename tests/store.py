@@ -1,7 +1,8 @@
 #!/usr/bin/env python3
 """Drives the built program on real folders, and compares what it leaves on disk with the format.
 
-Run after `rt ci`, which leaves the program in crates/samq/out/. The expected bytes are written out by hand.
+Run after `rt ci`, which leaves the program in crates/samq/out/; SAMQ in the environment names another one. The expected bytes
+are written out by hand.
 """
 import os
 import random
@@ -14,7 +15,7 @@ import tempfile
 import time
 
 TOP = os.path.dirname(os.path.dirname(os.path.abspath(__file__)))
-SAMQ = os.path.join(TOP, "crates", "samq", "out", "samq")
+SAMQ = os.environ.get("SAMQ") or os.path.join(TOP, "crates", "samq", "out", "samq")
 
 passed = 0
 failed = 0
@@ -300,16 +301,22 @@ def killed():
             check(f"killed {turn}: after {acknowledged} answers", (code, kept), (0, True))
 
 
-def under_calls(top, folder, given, **more):
-    """Runs the program over the library that notes its calls; gives what it answered and the calls, each as its words."""
+def run_noted(top, folder, given, **more):
+    """Runs the program over the library that notes its calls; gives its status, what it answered and the calls, each as its words."""
     library, notes = os.path.join(top, "calls.so"), os.path.join(top, "calls")
     if not os.path.exists(library):
         source = os.path.join(TOP, "tests", "calls.c")
         subprocess.run(["cc", "-O1", "-shared", "-fPIC", "-o", library, source, "-ldl"], check=True)
     names = dict(os.environ, LD_PRELOAD=library, CALLS=notes, **more)
-    done = subprocess.run([SAMQ, "run", folder], input=given, stdout=subprocess.PIPE, env=names, timeout=60)
+    done = subprocess.run([SAMQ, "run", folder], input=given, stdout=subprocess.PIPE, stderr=subprocess.PIPE, env=names, timeout=60)
     with open(notes) as file:
-        return done.stdout, [line.split(" ") for line in file.read().splitlines()]
+        return done.returncode, done.stdout, [line.split(" ") for line in file.read().splitlines()]
+
+
+def under_calls(top, folder, given, **more):
+    """What the program answered, and its writes and syncs."""
+    _, out, calls = run_noted(top, folder, given, **more)
+    return out, [words for words in calls if words[0] != "read"]
 
 
 def answers_after_syncs():

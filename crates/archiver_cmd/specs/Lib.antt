@@ -1,3 +1,4 @@
 pub mod Levels
 pub mod Params
+pub mod ParamsSteps
 pub mod Conf

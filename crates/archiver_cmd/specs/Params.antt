@@ -14,7 +14,9 @@ use Rattle.archiver_lines.specs.declared.reading.ParamsLine.{ParamsLine}
 use Rattle.archiver_lines.specs.declared.reading.CopyName.{CopyName}
 use Rattle.archiver_lines.specs.declared.reading.CopyName.TheVariants.{AllSets, AllSetsCopy, SetCopy}
 use Rattle.archiver_lines.specs.Names.{same_name}
-use Rattle.archiver_lines.specs.Assignments.{or_else, last_of}
+use Rattle.site_text.specs.LastValues.{last_of}
+use Rattle.std.specs.List.{list_any}
+use Rattle.std.specs.Option.{option_or}
 
 -- ---- what each option says
 
@@ -101,27 +103,24 @@ reserve_after before gs = fold (λ found g. reserve_with found (reserve_in g)) b
 
 -- ---- the options of a name, and which hold
 
-abbrev pub stands_after : (Given → Bool) → Bool → List Given → Bool
-stands_after is before gs = fold (λ found g. is g || found) before gs
-
 -- all that the lines of a name give, in order
 abbrev pub given_for : CopyName → List ParamsLine → List Given
 given_for name lines = flat_map (λ l. if same_name l.name name then l.given else []) lines
 
 -- An option is looked up by itself: under `SET.N`, then `allsets.N`, then `allsets`. Of one given twice for a name the last holds.
 abbrev pub looked_up : {A : Type 0} → (Given → Option A) → List ParamsLine → Field → ℕ → Option A
-looked_up says lines set copy = or_else (last_of says (given_for (SetCopy set copy) lines))
-    (or_else (last_of says (given_for (AllSetsCopy copy) lines)) (last_of says (given_for AllSets lines)))
+looked_up says lines set copy = option_or (last_of says (given_for (SetCopy set copy) lines))
+    (option_or (last_of says (given_for (AllSetsCopy copy) lines)) (last_of says (given_for AllSets lines)))
 
 -- the same of an option without a value: it is given under one of the names
 abbrev pub stands : (Given → Bool) → List ParamsLine → Field → ℕ → Bool
-stands is lines set copy = stands_after is false (given_for (SetCopy set copy) lines)
-    || (stands_after is false (given_for (AllSetsCopy copy) lines) || stands_after is false (given_for AllSets lines))
+stands is lines set copy = list_any is (given_for (SetCopy set copy) lines)
+    || (list_any is (given_for (AllSetsCopy copy) lines) || list_any is (given_for AllSets lines))
 
 -- the same of a reservation, whose parts are those of one name
 abbrev pub reserve_for : List ParamsLine → Field → ℕ → Option Reserve
-reserve_for lines set copy = or_else (reserve_after None (given_for (SetCopy set copy) lines))
-    (or_else (reserve_after None (given_for (AllSetsCopy copy) lines)) (reserve_after None (given_for AllSets lines)))
+reserve_for lines set copy = option_or (reserve_after None (given_for (SetCopy set copy) lines))
+    (option_or (reserve_after None (given_for (AllSetsCopy copy) lines)) (reserve_after None (given_for AllSets lines)))
 
 -- the options for a copy of a set
 pub record AreParams (lines : List ParamsLine) (set : Field) (copy : ℕ) (params : Params) : Type 0 where
@@ -140,51 +139,3 @@ pub record AreParams (lines : List ParamsLine) (set : Field) (copy : ℕ) (param
   pub recycle_vsncount : params.recycle_vsncount ≡ looked_up recycle_vsncount_in lines set copy
   pub recycle_dataquantity : params.recycle_dataquantity ≡ looked_up recycle_dataquantity_in lines set copy
   pub recycle_ignore : params.recycle_ignore ≡ stands is_recycle_ignore lines set copy
-
--- ---- all options at once
-
-abbrev pub no_params : Params
-no_params = record { archmax = None; fillvsns = false; join = None; sort = None; reserve = None; ovflmin = None; startage = None; startcount = None; startsize = None; unarchage = None; recycle_hwm = None; recycle_mingain = None; recycle_vsncount = None; recycle_dataquantity = None; recycle_ignore = false }
-
--- an option is given in place of what was given before; a part of a reservation is added
-abbrev pub with_param : Params → Given → Params
-with_param p g = record {
-  archmax = or_else (archmax_in g) p.archmax;
-  fillvsns = is_fillvsns g || p.fillvsns;
-  join = or_else (join_in g) p.join;
-  sort = or_else (sort_in g) p.sort;
-  reserve = reserve_with p.reserve (reserve_in g);
-  ovflmin = or_else (ovflmin_in g) p.ovflmin;
-  startage = or_else (startage_in g) p.startage;
-  startcount = or_else (startcount_in g) p.startcount;
-  startsize = or_else (startsize_in g) p.startsize;
-  unarchage = or_else (unarchage_in g) p.unarchage;
-  recycle_hwm = or_else (recycle_hwm_in g) p.recycle_hwm;
-  recycle_mingain = or_else (recycle_mingain_in g) p.recycle_mingain;
-  recycle_vsncount = or_else (recycle_vsncount_in g) p.recycle_vsncount;
-  recycle_dataquantity = or_else (recycle_dataquantity_in g) p.recycle_dataquantity;
-  recycle_ignore = is_recycle_ignore g || p.recycle_ignore;
-}
-
-abbrev pub params_named : List ParamsLine → CopyName → Params
-params_named lines name = fold with_param no_params (given_for name lines)
-
--- each as in the first, or else as in the other
-abbrev pub over : Params → Params → Params
-over p q = record {
-  archmax = or_else p.archmax q.archmax;
-  fillvsns = p.fillvsns || q.fillvsns;
-  join = or_else p.join q.join;
-  sort = or_else p.sort q.sort;
-  reserve = or_else p.reserve q.reserve;
-  ovflmin = or_else p.ovflmin q.ovflmin;
-  startage = or_else p.startage q.startage;
-  startcount = or_else p.startcount q.startcount;
-  startsize = or_else p.startsize q.startsize;
-  unarchage = or_else p.unarchage q.unarchage;
-  recycle_hwm = or_else p.recycle_hwm q.recycle_hwm;
-  recycle_mingain = or_else p.recycle_mingain q.recycle_mingain;
-  recycle_vsncount = or_else p.recycle_vsncount q.recycle_vsncount;
-  recycle_dataquantity = or_else p.recycle_dataquantity q.recycle_dataquantity;
-  recycle_ignore = p.recycle_ignore || q.recycle_ignore;
-}

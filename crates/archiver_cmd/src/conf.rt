@@ -5,12 +5,12 @@ ghost use Rattle.std.specs.Str.{bytes_eq};
 ghost use Rattle.std.specs.List.{list_any};
 ghost use Rattle.std.specs.Option.{option_map, option_copied};
 ghost use Rattle.archiver_lines.specs.declared.reading.Reading.{Reading};
-ghost use Rattle.archiver_lines.specs.declared.reading.VsnsLine.{VsnsLine};
+ghost use Rattle.archiver_lines.specs.declared.reading.CopyName.{CopyName};
 ghost use Rattle.archiver_lines.specs.Names.{same_name};
 ghost use Rattle.archiver_cmd.specs.Levels.{name_at};
 ghost use Rattle.archiver_cmd.specs.Params.{AreParams};
-ghost use Rattle.archiver_lines.specs.Told.{Knows};
-ghost use Rattle.archiver_cmd.specs.Conf.{is_copy_of, copies_numbered, given_copies, default_copy, set_copies, set_conf, set_confs, exprs_under, exprs_in, AreGroups, GroupsSoFar, exprs_for, name_of, Tells};
+ghost use Rattle.archiver_lines.specs.KnownSteps.{Knows};
+ghost use Rattle.archiver_cmd.specs.Conf.{is_copy_of, copies_numbered, given_copies, default_copy, set_copies, set_conf, exprs_under, exprs_in, with_name, group_of, groups_of, exprs_for, Tells};
 
 use crate::levels::{Level, is_named};
 use crate::params::{Params, params_of_copy};
@@ -18,7 +18,7 @@ use archiver_lines::{
     Assignment, CopyConf, CopyName, DEFAULT_AGE, Known, ParamsLine, SetCopy, VsnExpr, VsnsLine,
     mention, same_name,
 };
-use site_text::{Bytes, List};
+use base::{Bytes, List};
 use std::alloc::{AllocError, Global};
 
 /// A set with its copies.
@@ -45,7 +45,7 @@ pub struct ArchiverConf {
     pub sets: List<SetConf>,
     /// The lines of params, in file order.
     pub params: List<ParamsLine>,
-    /// The names of vsns lines with their expressions.
+    /// The names of vsns lines, in the order of their first lines, each with the expressions of all its lines.
     pub vsns: List<VsnsGroup>,
     /// There is a vsns section.
     pub has_vsns: bool,
@@ -121,7 +121,7 @@ fn set_conf(alloc: Global, copies: &[SetCopy], name: &[u8]) -> Result<SetConf, A
     Ok(SetConf { name, copies })
 }
 
-pub fn set_confs(
+fn set_confs(
     alloc: Global,
     copies: &[SetCopy],
     names: &[Bytes],
@@ -168,7 +168,7 @@ fn has_group(groups: &[VsnsGroup], name: &CopyName) -> bool
 }
 
 fn group_of(alloc: Global, lines: &[VsnsLine], name: &CopyName) -> Result<VsnsGroup, AllocError>
-    ensures { IfOk result (λ group. group ≡ record { name = name.now; exprs = exprs_under lines.now name.now }) }
+    ensures { IfOk result (λ group. group ≡ group_of lines.now name.now) }
 {
     let exprs = exprs_under(alloc, lines, name)?;
     let name = name.copy()?;
@@ -182,7 +182,7 @@ fn add_group(
     lines: &[VsnsLine],
     line: &VsnsLine,
 ) -> Result<(), AllocError>
-    ensures { OnOk result ((front : Seq VsnsLine) → GroupsSoFar lines.now front groups.old → GroupsSoFar lines.now (front ++ line.now ∷ []) groups.new) }
+    ensures { (names : Seq CopyName) → groups.old ≡ map (group_of lines.now) names → OnOk result (groups.new ≡ map (group_of lines.now) (with_name names line.now.name)) }
 {
     if has_group(groups.as_slice(), &line.name) {
         return Ok(());
@@ -193,8 +193,8 @@ fn add_group(
 }
 
 /// The names of some vsns lines, each with the expressions of its lines.
-pub fn groups_of(alloc: Global, lines: &[VsnsLine]) -> Result<List<VsnsGroup>, AllocError>
-    ensures { IfOk result (λ groups. AreGroups lines.now groups) }
+fn groups_of(alloc: Global, lines: &[VsnsLine]) -> Result<List<VsnsGroup>, AllocError>
+    ensures { IfOk result (λ groups. groups ≡ groups_of lines.now) }
 {
     let mut groups = List::new(alloc);
     for line in lines {
@@ -253,30 +253,26 @@ impl ArchiverConf {
         self.sets.as_slice()
     }
 
-    /// The options of params for a copy of the set at this place.
-    pub fn params(&self, set: u32, copy: u8) -> Params
-        requires { set < length self.now.sets }
-        ensures { AreParams self.now.params (name_of self.now.sets set) copy result }
+    /// The options of params for a copy of the set of this name.
+    pub fn params(&self, set: &[u8], copy: u8) -> Params
+        ensures { AreParams self.now.params set.now copy result }
     {
-        let name = self.sets.as_slice()[set as usize].name.as_slice();
-        params_of_copy(self.params.as_slice(), name, copy)
+        params_of_copy(self.params.as_slice(), set, copy)
     }
 
-    /// The expressions for the volumes of a copy of the set at this place: those of its own lines, else those of this copy of all
+    /// The expressions for the volumes of a copy of the set of this name: those of its own lines, else those of this copy of all
     /// sets, else those of all sets.
-    pub fn exprs(&self, set: u32, copy: u8) -> &[VsnExpr]
-        requires { set < length self.now.sets }
-        ensures { result.now ≡ exprs_for self.now.vsns (name_of self.now.sets set) copy }
+    pub fn exprs(&self, set: &[u8], copy: u8) -> &[VsnExpr]
+        ensures { result.now ≡ exprs_for self.now.vsns set.now copy }
     {
-        let name = self.sets.as_slice()[set as usize].name.as_slice();
         let groups = self.vsns.as_slice();
-        if let Some(exprs) = exprs_at(groups, Level::Set, name, copy) {
+        if let Some(exprs) = exprs_at(groups, Level::Set, set, copy) {
             return exprs;
         }
-        if let Some(exprs) = exprs_at(groups, Level::Copy, name, copy) {
+        if let Some(exprs) = exprs_at(groups, Level::Copy, set, copy) {
             return exprs;
         }
-        match exprs_at(groups, Level::All, name, copy) {
+        match exprs_at(groups, Level::All, set, copy) {
             Some(exprs) => exprs,
             None => &[],
         }

@@ -4,7 +4,6 @@
 mod conf;
 mod levels;
 mod params;
-mod plain;
 mod read;
 
 pub use archiver_lines::{
@@ -13,5 +12,4 @@ pub use archiver_lines::{
 };
 pub use conf::{ArchiverConf, SetConf, VsnsGroup};
 pub use params::{Params, Reserve};
-pub use plain::plain_archiver;
 pub use read::{each_archiver_says_one_thing, read_archiver};

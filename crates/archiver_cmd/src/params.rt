@@ -1,8 +1,9 @@
 //! Which options of params hold for a copy of a set.
 
 ghost use Rattle.std.specs.Prelude.{◌≡◌, fold};
-ghost use Rattle.archiver_cmd.specs.Params.{no_params, with_reserve, with_param, over, params_named, AreParams};
-ghost use Rattle.archiver_lines.specs.Assignments.{or_else};
+ghost use Rattle.archiver_cmd.specs.Params.{with_reserve, AreParams};
+ghost use Rattle.archiver_cmd.specs.ParamsSteps.{no_params, with_param, over, params_named};
+ghost use Rattle.std.specs.Option.{option_or};
 ghost use Rattle.archiver_cmd.specs.Levels.{name_at};
 
 use crate::levels::{Level, is_named};
@@ -129,7 +130,7 @@ fn params_named(lines: &[ParamsLine], level: Level, set: &[u8], copy: u8) -> Par
 }
 
 fn either<T: Copy>(first: Option<T>, other: Option<T>) -> Option<T>
-    ensures { result ≡ or_else first other }
+    ensures { result ≡ option_or first other }
 {
     match first {
         Some(value) => Some(value),
@@ -162,7 +163,6 @@ fn over(first: Params, other: Params) -> Params
 
 /// The options for a copy of a set: each as its own lines give it, else as those of this copy of all sets, else as those of all
 /// sets.
-#[tactic(auto, using(crate::proofs::ParamsTold::each_looked_up))]
 pub fn params_of_copy(lines: &[ParamsLine], set: &[u8], copy: u8) -> Params
     ensures { AreParams lines.now set.now copy result }
 {

@@ -1,9 +1,9 @@
 //! The whole of an archiver.cmd.
 
 ghost use Rattle.std.specs.Prelude.{◌≤◌, ℕ, List as Seq, length};
-ghost use Rattle.site_text.specs.Files.{FileAnswers};
-ghost use Rattle.archiver_lines.specs.Lines.{line_of};
-ghost use Rattle.archiver_lines.specs.Says.{LineSays, LineWrong};
+ghost use Rattle.site_text.specs.FileRules.{FileAnswers};
+ghost use Rattle.archiver_lines.specs.LineSteps.{line_of};
+ghost use Rattle.archiver_lines.specs.LineRules.{LineSays, LineWrong};
 ghost use Rattle.archiver_lines.specs.Told.{open_line};
 ghost use Rattle.archiver_cmd.specs.Conf.{Tells};
 ghost use Rattle.site_text.specs.OneMeaning.{SaysOneThing};
@@ -20,9 +20,10 @@ struct ArchiverFile<'a> {
 }
 
 impl CommandFile for ArchiverFile<'_> {
-    ghost use Rattle.archiver_lines.specs.Lines.{line_of};
-    ghost use Rattle.archiver_lines.specs.Says.{LineSays, LineWrong};
-    ghost use Rattle.archiver_lines.specs.Told.{open_line, Knows};
+    ghost use Rattle.archiver_lines.specs.LineSteps.{line_of};
+    ghost use Rattle.archiver_lines.specs.LineRules.{LineSays, LineWrong};
+    ghost use Rattle.archiver_lines.specs.Told.{open_line};
+    ghost use Rattle.archiver_lines.specs.KnownSteps.{Knows};
     ghost use Rattle.archiver_lines.proofs.LineLaws.{line_said, line_read, line_wrong, line_refused};
 
     type Reading = Reading;

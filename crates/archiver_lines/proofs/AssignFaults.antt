@@ -6,16 +6,19 @@ use Rattle.std.proofs.lemmas.Bool.{leb-true}
 use Rattle.site_text.specs.declared.fault.ConfFault.{ConfFault}
 use Rattle.site_text.specs.declared.fault.ConfFault.TheVariants.{MissingField, BadValue, TooMany, Conflict}
 use Rattle.site_text.specs.Fields.{Field, Read, ◌>>=◌, next_field, refuse_if}
-use Rattle.site_text.specs.Options.{options_of}
+use Rattle.site_text.specs.OptionSteps.{options_of}
 use Rattle.site_text.proofs.OptionLaws.{options_wrong, options_refused}
 use Rattle.archiver_lines.specs.declared.criteria.Criterion.{Criterion}
 use Rattle.archiver_lines.specs.declared.reading.Reading.{Reading}
-use Rattle.archiver_lines.specs.Names.{is_set_name, set_place}
+use Rattle.archiver_lines.specs.Names.{is_set_name}
 use Rattle.archiver_lines.specs.Paths.{is_set_path}
 use Rattle.archiver_lines.specs.Criteria.{criteria_table}
-use Rattle.archiver_lines.specs.Assignments.{assign_line}
+use Rattle.archiver_lines.specs.CopySteps.{is_too_many}
+use Rattle.archiver_lines.specs.AssignmentSteps.{assign_line}
 use Rattle.archiver_lines.specs.Told.{assignments_of, sets_of}
-use Rattle.archiver_lines.specs.Wrong.{fault_number, SetFault, BehindSet, AssignWrong}
+use Rattle.archiver_lines.specs.Faults.{fault_number}
+use Rattle.archiver_lines.specs.AssignmentRules.{SetFault, BehindSet, AssignmentWrong}
+use Rattle.archiver_lines.proofs.Sets.{many_said, not_many}
 use Rattle.archiver_lines.proofs.Tests.{is_same, is_other, is_above}
 use Rattle.archiver_lines.proofs.AssignLaws.{line_read, path_read, told}
 use Rattle.archiver_lines.proofs.Faults.{bind_err, Judges, fails, passes, failed, passed}
@@ -26,10 +29,10 @@ abbrev set_tests : Bool → Bool → Bool → Read (Unit {0})
 set_tests form full all = refuse_if (not form) BadValue >>= λ u. refuse_if full TooMany >>= λ u. refuse_if all Conflict
 
 abbrev set_read : List Reading → Field → Read (Unit {0})
-set_read before set = set_tests (is_set_name set) (nat_le 64 (length (assignments_of before)) || nat_le 64 (set_place (sets_of before) set)) (bytes_eq set (codes "allsets"))
+set_read before set = set_tests (is_set_name set) (nat_le 64 (length (assignments_of before)) || is_too_many (sets_of before) set) (bytes_eq set (codes "allsets"))
 
 set_judged : (before : List Reading) (set : Field) → Judges (SetFault before set) (set_read before set)
-set_judged before set = go (is_set_name set) (nat_le 64 (length (assignments_of before))) (nat_le 64 (set_place (sets_of before) set)) (bytes_eq set (codes "allsets")) refl refl refl refl
+set_judged before set = go (is_set_name set) (nat_le 64 (length (assignments_of before))) (is_too_many (sets_of before) set) (bytes_eq set (codes "allsets")) refl refl refl refl
   where
     form_first : (fault : ConfFault) → SetFault before set fault → 4 ≤ fault_number fault
     form_first BadValue has = omega (arith)
@@ -43,26 +46,26 @@ set_judged before set = go (is_set_name set) (nat_le 64 (length (assignments_of 
     then_room form Conflict has = omega (arith)
     then_room form fault has = absurd has
 
-    no_room : nat_le 64 (length (assignments_of before)) ≡ false → nat_le 64 (set_place (sets_of before) set) ≡ false → SetFault before set TooMany → ⊥
+    no_room : nat_le 64 (length (assignments_of before)) ≡ false → is_too_many (sets_of before) set ≡ false → SetFault before set TooMany → ⊥
     no_room lines sets (inl has) = omega (arith, is_above 64 _ lines, has)
-    no_room lines sets (inr has) = omega (arith, is_above 64 _ sets, has)
+    no_room lines sets (inr has) = not_many (sets_of before) set sets has
 
-    then_own : is_set_name set ≡ true → nat_le 64 (length (assignments_of before)) ≡ false → nat_le 64 (set_place (sets_of before) set) ≡ false → (fault : ConfFault) → SetFault before set fault → 11 ≤ fault_number fault
+    then_own : is_set_name set ≡ true → nat_le 64 (length (assignments_of before)) ≡ false → is_too_many (sets_of before) set ≡ false → (fault : ConfFault) → SetFault before set fault → 11 ≤ fault_number fault
     then_own form lines sets BadValue has = absurd cc
     then_own form lines sets TooMany has = absurd (no_room lines sets has)
     then_own form lines sets Conflict has = omega (arith)
     then_own form lines sets fault has = absurd has
 
-    none : is_set_name set ≡ true → nat_le 64 (length (assignments_of before)) ≡ false → nat_le 64 (set_place (sets_of before) set) ≡ false → bytes_eq set (codes "allsets") ≡ false → (fault : ConfFault) → ¬ SetFault before set fault
+    none : is_set_name set ≡ true → nat_le 64 (length (assignments_of before)) ≡ false → is_too_many (sets_of before) set ≡ false → bytes_eq set (codes "allsets") ≡ false → (fault : ConfFault) → ¬ SetFault before set fault
     none form lines sets own BadValue has = absurd cc
     none form lines sets own TooMany has = absurd (no_room lines sets has)
     none form lines sets own Conflict has = is_other set (codes "allsets") own has
     none form lines sets own fault has = absurd has
 
-    go : (a b c d : Bool) → is_set_name set ≡ a → nat_le 64 (length (assignments_of before)) ≡ b → nat_le 64 (set_place (sets_of before) set) ≡ c → bytes_eq set (codes "allsets") ≡ d → Judges (SetFault before set) (set_tests a (b || c) d)
+    go : (a b c d : Bool) → is_set_name set ≡ a → nat_le 64 (length (assignments_of before)) ≡ b → is_too_many (sets_of before) set ≡ c → bytes_eq set (codes "allsets") ≡ d → Judges (SetFault before set) (set_tests a (b || c) d)
     go false b c d form lines sets own = record { there = form; lowest = form_first }
     go true true c d form lines sets own = record { there = inl (leb-true _ _ lines); lowest = then_room form }
-    go true false true d form lines sets own = record { there = inr (leb-true _ _ sets); lowest = then_room form }
+    go true false true d form lines sets own = record { there = inr (many_said (sets_of before) set sets); lowest = then_room form }
     go true false false true form lines sets own = record { there = is_same set (codes "allsets") own; lowest = then_own form lines sets }
     go true false false false form lines sets own = none form lines sets own
 
@@ -75,7 +78,7 @@ three_tests true false false rest = refl
 -- the set is read first, and then what is behind it
 set_first : (site : Field) (before : List Reading) (number : ℕ) (set : Field) (fields : List Field) → line_read site before number set fields ≡ (set_read before set >>= λ u. path_read site before number set fields)
 unfolding assign_line
-set_first site before number set fields = three_tests (is_set_name set) (nat_le 64 (length (assignments_of before)) || nat_le 64 (set_place (sets_of before) set)) (bytes_eq set (codes "allsets")) (path_read site before number set fields)
+set_first site before number set fields = three_tests (is_set_name set) (nat_le 64 (length (assignments_of before)) || is_too_many (sets_of before) set) (bytes_eq set (codes "allsets")) (path_read site before number set fields)
 
 -- ---- what is behind it
 
@@ -100,14 +103,14 @@ behind_refused site before number set (path ∷ fields) fault (inr (legal, wrong
 
 -- ---- the line
 
-pub assign_wrong : (site : Field) (before : List Reading) (number : ℕ) (set : Field) (fields : List Field) (fault : ConfFault) → line_read site before number set fields ≡ Err fault → AssignWrong before set fields fault
+pub assign_wrong : (site : Field) (before : List Reading) (number : ℕ) (set : Field) (fields : List Field) (fault : ConfFault) → line_read site before number set fields ≡ Err fault → AssignmentWrong before set fields fault
 assign_wrong site before number set fields fault is = go (bind_err (set_read before set) (λ u. path_read site before number set fields) fault (sym (set_first site before number set fields) ∙ is))
   where
-    go : (set_read before set ≡ Err fault) ⊎ ((x : Unit {0}) × (set_read before set ≡ Ok x) × (path_read site before number set fields ≡ Err fault)) → AssignWrong before set fields fault
+    go : (set_read before set ≡ Err fault) ⊎ ((x : Unit {0}) × (set_read before set ≡ Ok x) × (path_read site before number set fields ≡ Err fault)) → AssignmentWrong before set fields fault
     go (inl e) = inl (failed (SetFault before set) (set_read before set) fault (set_judged before set) e)
     go (inr (x, e, behind)) = inr (passed (SetFault before set) (set_read before set) x (set_judged before set) e, behind_wrong site before number set fields fault behind)
 
-pub assign_refused : (site : Field) (before : List Reading) (number : ℕ) (set : Field) (fields : List Field) (fault : ConfFault) → AssignWrong before set fields fault → line_read site before number set fields ≡ Err fault
+pub assign_refused : (site : Field) (before : List Reading) (number : ℕ) (set : Field) (fields : List Field) (fault : ConfFault) → AssignmentWrong before set fields fault → line_read site before number set fields ≡ Err fault
 assign_refused site before number set fields fault (inl lowest) =
     set_first site before number set fields ∙ rw (fails (SetFault before set) (set_read before set) fault (set_judged before set) lowest) refl
 assign_refused site before number set fields fault (inr (faultless, behind)) =

@@ -13,11 +13,12 @@ use Rattle.site_text.specs.Words.{is_option}
 use Rattle.site_text.specs.Fields.{Field, Read, ◌>>=◌, no_field, wanted, refuse_if}
 use Rattle.archiver_lines.specs.declared.reading.CopyConf.{CopyConf}
 use Rattle.archiver_lines.specs.declared.reading.SetCopy.{SetCopy}
-use Rattle.archiver_lines.specs.Names.{set_place, is_too_many}
-use Rattle.archiver_lines.specs.CopyLines.{has_copy, no_second, copy_option, copy_ages, copy_conf, copy_line}
-use Rattle.archiver_lines.specs.Parts.{OptionSays, AgesSay, IsPlain}
-use Rattle.archiver_lines.specs.Wrong.{fault_number, NumberFault, IsCopyOption, OptionFault, OptionWrong, AgeFault, AgesWrong, BehindNumber, CopyWrong}
-use Rattle.archiver_lines.proofs.Tests.{same, is_same, other, is_other, is_above}
+use Rattle.archiver_lines.specs.Names.{IsOneTooMany}
+use Rattle.archiver_lines.specs.CopySteps.{is_too_many, no_second, copy_option, copy_ages, copy_conf, copy_line}
+use Rattle.archiver_lines.specs.CopyRules.{has_copy, OptionSays, AgesSay, IsPlain, NumberFault, IsCopyOption, OptionFault, OptionWrong, AgeFault, AgesWrong, BehindNumber, CopyWrong}
+use Rattle.archiver_lines.specs.Faults.{fault_number}
+use Rattle.archiver_lines.proofs.Sets.{many_said, not_many}
+use Rattle.archiver_lines.proofs.Tests.{same, is_same, other, is_other}
 use Rattle.archiver_lines.proofs.CopyLaws.{option_read, option_said, age_said, set_copy, ending}
 use Rattle.archiver_lines.proofs.Faults.{bind_err, Judges, fails, passes, failed, passed}
 
@@ -39,8 +40,8 @@ number_read target copies sets field = number_with copies sets (number_in 9 fiel
 same_copy : (copies : List SetCopy) (set s : Field) (copy c : ℕ) → set ≡ s → copy ≡ c → has_copy copies set copy ≡ false → ¬ (has_copy copies s c ≡ true)
 same_copy copies set s copy c e d fresh twice = let h : has_copy copies s c ≡ false = subst (λ (t : Field). has_copy copies t c ≡ false) e (subst (λ (k : ℕ). has_copy copies set k ≡ false) d fresh) in absurd cc
 
-same_place : (sets : List Field) (set s : Field) → set ≡ s → is_too_many sets set ≡ false → ¬ (64 ≤ set_place sets s)
-same_place sets set s e few many = omega (arith, is_above 64 (set_place sets s) (subst (λ (t : Field). is_too_many sets t ≡ false) e few), many)
+same_set : (sets : List Field) (set s : Field) → set ≡ s → is_too_many sets set ≡ false → ¬ IsOneTooMany sets s
+same_set sets set s e few many = not_many sets s (subst (λ (t : Field). is_too_many sets t ≡ false) e few) many
 
 module _ (target : Option Field) (copies : List SetCopy) (sets : List Field) (field : Field) where
   form_first : (fault : ConfFault) → NumberFault target copies sets field fault → 4 ≤ fault_number fault
@@ -75,8 +76,8 @@ module _ (target : Option Field) (copies : List SetCopy) (sets : List Field) (fi
     not_twice fresh (s, c, there, is, twice) =
         same_copy copies set s copy c (let e : set ≡ s = cc in e) (let e : copy ≡ c = cc in e) fresh twice
 
-    not_many : is_too_many sets set ≡ false → NumberFault target copies sets field TooMany → ⊥
-    not_many few (s, there, many) = same_place sets set s (let e : set ≡ s = cc in e) few many
+    no_more : is_too_many sets set ≡ false → NumberFault target copies sets field TooMany → ⊥
+    no_more few (s, there, many) = same_set sets set s (let e : set ≡ s = cc in e) few many
 
     not_barred : bytes_eq set (codes "no_archive") ≡ false → NumberFault target copies sets field Conflict → ⊥
     not_barred archived has = is_other set (codes "no_archive") archived (let e : set ≡ codes "no_archive" = cc in e)
@@ -98,7 +99,7 @@ module _ (target : Option Field) (copies : List SetCopy) (sets : List Field) (fi
     then_archived fresh few BadValue has = absurd cc
     then_archived fresh few CopyBeforeSet has = absurd cc
     then_archived fresh few CopyTwice has = absurd (not_twice fresh has)
-    then_archived fresh few TooMany has = absurd (not_many few has)
+    then_archived fresh few TooMany has = absurd (no_more few has)
     then_archived fresh few Conflict has = omega (arith)
     then_archived fresh few OutOfRange has = omega (arith)
     then_archived fresh few fault has = absurd has
@@ -107,7 +108,7 @@ module _ (target : Option Field) (copies : List SetCopy) (sets : List Field) (fi
     then_range fresh few archived BadValue has = absurd cc
     then_range fresh few archived CopyBeforeSet has = absurd cc
     then_range fresh few archived CopyTwice has = absurd (not_twice fresh has)
-    then_range fresh few archived TooMany has = absurd (not_many few has)
+    then_range fresh few archived TooMany has = absurd (no_more few has)
     then_range fresh few archived Conflict has = absurd (not_barred archived has)
     then_range fresh few archived OutOfRange has = omega (arith)
     then_range fresh few archived fault has = absurd has
@@ -116,7 +117,7 @@ module _ (target : Option Field) (copies : List SetCopy) (sets : List Field) (fi
     none fresh few archived low high BadValue has = absurd cc
     none fresh few archived low high CopyBeforeSet has = absurd cc
     none fresh few archived low high CopyTwice has = not_twice fresh has
-    none fresh few archived low high TooMany has = not_many few has
+    none fresh few archived low high TooMany has = no_more few has
     none fresh few archived low high Conflict has = not_barred archived has
     none fresh few archived low high OutOfRange has = not_outside low high has
     none fresh few archived low high fault has = absurd has
@@ -124,7 +125,7 @@ module _ (target : Option Field) (copies : List SetCopy) (sets : List Field) (fi
     of_set : (twice many barred low high : Bool) → has_copy copies set copy ≡ twice → is_too_many sets set ≡ many → bytes_eq set (codes "no_archive") ≡ barred → nat_le 1 copy ≡ low → nat_le copy 4 ≡ high
         → Judges (NumberFault target copies sets field) (number_tests copy set twice many barred (low && high))
     of_set true many barred low high p q r s t = record { there = (set, copy, belongs, number, p); lowest = then_fresh }
-    of_set false true barred low high p q r s t = record { there = (set, belongs, leb-true 64 (set_place sets set) q); lowest = then_room p }
+    of_set false true barred low high p q r s t = record { there = (set, belongs, many_said sets set q); lowest = then_room p }
     of_set false false true low high p q r s t = record { there = belongs ∙ ap (λ (f : Field). some_field f) (is_same set (codes "no_archive") r); lowest = then_archived p q }
       where
         some_field : Field → Option Field

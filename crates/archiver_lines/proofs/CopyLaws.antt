@@ -12,11 +12,10 @@ use Rattle.site_text.specs.Words.{is_option}
 use Rattle.site_text.specs.Fields.{Field, Read, ◌>>=◌, no_field, wanted, refuse_if}
 use Rattle.archiver_lines.specs.declared.reading.CopyConf.{CopyConf}
 use Rattle.archiver_lines.specs.declared.reading.SetCopy.{SetCopy}
-use Rattle.archiver_lines.specs.Names.{set_place, is_too_many}
-use Rattle.archiver_lines.specs.CopyLines.{has_copy, no_second, copy_option, copy_ages, copy_conf, copy_line}
-use Rattle.archiver_lines.specs.Parts.{OptionSays, AgesSay, IsPlain}
-use Rattle.archiver_lines.specs.Says.{CopySays}
-use Rattle.archiver_lines.proofs.Tests.{bind_ok, wanted_said, not_refused, not_false, both_true, is_same, other, is_other, above, is_above}
+use Rattle.archiver_lines.specs.CopySteps.{is_too_many, no_second, copy_option, copy_ages, copy_conf, copy_line}
+use Rattle.archiver_lines.specs.CopyRules.{has_copy, OptionSays, AgesSay, IsPlain, CopySays}
+use Rattle.archiver_lines.proofs.Sets.{few_sets, few_said}
+use Rattle.archiver_lines.proofs.Tests.{bind_ok, wanted_said, not_refused, not_false, both_true, is_same, other, is_other}
 
 -- ---- what is said is read
 
@@ -66,7 +65,7 @@ copy_read target copies sets field fields line s =
       s.number,
       s.belongs,
       s.fresh,
-      above 64 (set_place sets line.set) s.room,
+      few_sets sets line.set s.room,
       other line.set (codes "no_archive") s.archived,
       le-leb 1 line.conf.copy s.low,
       le-leb line.conf.copy 4 s.high,
@@ -201,7 +200,7 @@ copy_said target copies sets field fields line is =
     subst (CopySays target copies sets field fields) e (record {
       belongs = wanted_said target CopyBeforeSet s.0 s.1;
       archived = is_other s.0 (codes "no_archive") (not_refused _ Conflict a.0 a.1);
-      room = is_above 64 (set_place sets s.0) (not_refused _ TooMany m.0 m.1);
+      room = few_said sets s.0 (not_refused _ TooMany m.0 m.1);
       number = wanted_said (number_in 9 field) BadValue n.0 n.1 ∙ ap (λ (k : ℕ). some_number k) says.0;
       low = subst (λ k. 1 ≤ k) says.0 (leb-true _ _ within.0);
       high = subst (λ k. k ≤ 4) says.0 (leb-true _ _ within.1);

@@ -3,7 +3,7 @@ use Rattle.std.proofs.Common.{◌≡◌, ℕ, zero, suc, List, [], ◌∷◌, Ok
 use Rattle.site_text.specs.declared.fault.ConfFault.{ConfFault}
 use Rattle.site_text.specs.declared.fault.ConfFault.TheVariants.{UnknownDirective, MissingField, ExtraField, BadValue, CopyBeforeSet, CopyTwice, UnknownSet, UnknownPool, SectionNotClosed, TooMany, Conflict, Duplicate, OutOfRange, NotText}
 use Rattle.site_text.specs.Fields.{Read, ◌>>=◌}
-use Rattle.archiver_lines.specs.Wrong.{fault_number, LowestFault, Faultless}
+use Rattle.archiver_lines.specs.Faults.{fault_number, LowestFault, Faultless}
 
 -- where a reading of two steps fails, the first does, or the second behind what the first gives
 pub bind_err : {A B : Type 0} (r : Read A) (f : A → Read B) (fault : ConfFault) → (r >>= f) ≡ Err fault → (r ≡ Err fault) ⊎ ((x : A) × (r ≡ Ok x) × (f x ≡ Err fault))

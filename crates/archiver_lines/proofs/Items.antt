@@ -7,7 +7,8 @@ use Rattle.site_text.specs.Fields.{Field, Read}
 use Rattle.site_text.specs.declared.fault.ConfFault.TheVariants.{MissingField, UnknownPool}
 use Rattle.archiver_lines.specs.declared.reading.PoolLine.{PoolLine}
 use Rattle.archiver_lines.specs.declared.reading.VsnExpr.{VsnExpr}
-use Rattle.archiver_lines.specs.SectionLines.{expr_of, is_of_pool, exprs_at, pool_exprs, is_pool, items_of, items_count, exprs_count}
+use Rattle.archiver_lines.specs.SectionRules.{expr_of, is_of_pool, exprs_at, pool_exprs, is_pool, items_count, exprs_count}
+use Rattle.archiver_lines.specs.SectionSteps.{items_of}
 
 -- a field that is not `-pool` is an expression, whatever stands behind it
 pub item_alone : (pools : List PoolLine) (media : Field) (line : ℕ) (found : List VsnExpr) (field : Field) (fields : List Field) → bytes_eq field (codes "-pool") ≡ false

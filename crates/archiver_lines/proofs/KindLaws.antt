@@ -9,7 +9,8 @@ use Rattle.archiver_lines.specs.declared.kinds.LineKind.{LineKind}
 use Rattle.archiver_lines.specs.declared.kinds.LineKind.TheVariants as kinds
 use Rattle.archiver_lines.specs.declared.reading.Section.{Section}
 use Rattle.archiver_lines.specs.declared.reading.Opened.{Opened}
-use Rattle.archiver_lines.specs.Kinds.{words, end_word, IsInside, IsOutside, IsOfKind, inside_kind, plain_kind, word_kind, outside_kind, kind_of}
+use Rattle.archiver_lines.specs.KindRules.{words, end_word, IsInside, IsOutside, IsOfKind, plain_kind}
+use Rattle.archiver_lines.specs.KindSteps.{inside_kind, word_kind, outside_kind, kind_of}
 use Rattle.archiver_lines.proofs.Tests.{is_same, is_other}
 
 -- ---- where a section is open

@@ -1,8 +1,10 @@
+pub mod Tests
+pub mod Tables
+pub mod Sets
 pub mod LastDot
 pub mod Items
 pub mod PoolTexts
 pub mod LastCriteria
-pub mod Tests
 pub mod Faults
 pub mod CopyLaws
 pub mod CopyFaults
@@ -14,3 +16,4 @@ pub mod SectionLaws
 pub mod SectionFaults
 pub mod KindLaws
 pub mod LineLaws
+pub mod ToldLaws

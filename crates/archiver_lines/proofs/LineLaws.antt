@@ -1,10 +1,10 @@
 -- A line is read as what it says, and says what it is read as; and so with what is wrong with it.
-use Rattle.std.proofs.Common.{◌≡◌, ℕ, List, [], ◌∷◌, Ok, Err, refl, sym, subst}
+use Rattle.std.proofs.Common.{◌≡◌, ℕ, length, List, [], ◌∷◌, Ok, Err, refl, sym, subst}
 use Rattle.site_text.specs.declared.line.Line.{Line}
 use Rattle.site_text.specs.declared.fault.ConfFault.{ConfFault}
 use Rattle.site_text.specs.declared.fault.ConfFault.TheVariants.{UnknownDirective, MissingField}
 use Rattle.site_text.specs.Fields.{Field, Read, ◌>>=◌}
-use Rattle.site_text.specs.Forms.{read_form}
+use Rattle.site_text.specs.FormSteps.{read_form}
 use Rattle.site_text.proofs.FormLaws.{form_said, form_wrong, form_read, form_refused, directive_said, directive_wrong, directive_read, directive_refused}
 use Rattle.archiver_lines.specs.declared.kinds.LineKind.{LineKind}
 use Rattle.archiver_lines.specs.declared.kinds.LineKind.TheVariants as kinds
@@ -13,14 +13,15 @@ use Rattle.archiver_lines.specs.declared.reading.Reading.TheVariants as readings
 use Rattle.archiver_lines.specs.declared.reading.Section.{Section}
 use Rattle.archiver_lines.specs.declared.reading.Section.TheVariants.{Params, VsnPools, Vsns}
 use Rattle.archiver_lines.specs.ValueForms.{value_names}
-use Rattle.site_text.specs.Plain.{no_words}
-use Rattle.archiver_lines.specs.Kinds.{kind_of}
-use Rattle.archiver_lines.specs.CopyLines.{copy_line}
-use Rattle.archiver_lines.specs.SectionLines.{pool_form, params_line, vsns_line}
-use Rattle.archiver_lines.specs.Told.{opened_of, file_systems_of, target_of, sets_of, copies_of, params_of, pools_of, room_of}
-use Rattle.archiver_lines.specs.Lines.{copy_reading, assign_reading, params_reading, pool_reading, vsns_reading, within_reading, line_as, line_of}
-use Rattle.archiver_lines.specs.Says.{SaysCopy, SaysAssign, SaysParams, SaysPool, SaysVsns, SaysWithin, SaysAs, LineSays, WrongAs, LineWrong}
-use Rattle.archiver_lines.specs.Wrong.{WrongCopy, WrongAssign, WrongParams, WrongVsns, WrongWithin}
+use Rattle.site_text.specs.Directives.{no_words}
+use Rattle.archiver_lines.specs.KindSteps.{kind_of}
+use Rattle.archiver_lines.specs.CopySteps.{copy_line}
+use Rattle.archiver_lines.specs.SectionRules.{pool_form}
+use Rattle.archiver_lines.specs.SectionSteps.{params_line, vsns_line}
+use Rattle.archiver_lines.specs.Told.{exprs_of, opened_of, file_systems_of, target_of, sets_of, copies_of, params_of, pools_of}
+use Rattle.archiver_lines.specs.ValueSteps.{value_reading}
+use Rattle.archiver_lines.specs.LineSteps.{copy_reading, assign_reading, params_reading, pool_reading, vsns_reading, within_reading, line_as, line_of}
+use Rattle.archiver_lines.specs.LineRules.{SaysCopy, SaysAssign, SaysParams, SaysPool, SaysVsns, SaysWithin, SaysAs, LineSays, WrongAs, LineWrong, WrongCopy, WrongAssign, WrongParams, WrongVsns, WrongWithin}
 use Rattle.archiver_lines.proofs.Tests.{bind_ok}
 use Rattle.archiver_lines.proofs.KindLaws.{of_kind, kind_is}
 use Rattle.archiver_lines.proofs.CopyLaws.{copy_read, copy_said}
@@ -59,7 +60,7 @@ pool_line_said number fields said is =
 vsns_line_said : (site : Field) (before : List Reading) (number : ℕ) (fields : List Field) (said : Reading) → vsns_reading site before number fields ≡ Ok said → SaysVsns site before number fields said
 vsns_line_said site before number [] said is = absurd cc
 vsns_line_said site before number (f ∷ fs) said is =
-    let l = bind_ok (vsns_line site (file_systems_of before) (sets_of before) (pools_of before) (room_of before) number f fs) (λ line. Ok (readings.Vsns line)) said is in
+    let l = bind_ok (vsns_line site (file_systems_of before) (sets_of before) (pools_of before) (length (exprs_of before)) number f fs) (λ line. Ok (readings.Vsns line)) said is in
     let e : readings.Vsns l.0 ≡ said = (let h = l.2 in cc) in
     subst (SaysVsns site before number (f ∷ fs)) e (vsns_said site before number f fs l.0 l.1)
 
@@ -75,6 +76,7 @@ said_is : (r said : Reading) → given r ≡ given said → said ≡ r
 said_is r said is = (let e : r ≡ said = cc in sym e)
 
 as_said : (kind : LineKind) (site : Field) (before : List Reading) (line : Line) (said : Reading) → line_as kind site before line ≡ Ok said → SaysAs kind site before line said
+unfolding value_reading
 as_said kinds.Empty site before line said is = absurd cc
 as_said kinds.NoDirective site before line said is = absurd cc
 as_said kinds.Ends site before line said is = said_is readings.Closes said is
@@ -118,6 +120,7 @@ within_read VsnPools site before line said says = pool_line_read line.number lin
 within_read Vsns site before line said says = vsns_line_read site before line.number line.fields said says
 
 as_read : (kind : LineKind) (site : Field) (before : List Reading) (line : Line) (said : Reading) → SaysAs kind site before line said → line_as kind site before line ≡ Ok said
+unfolding value_reading
 as_read kinds.Empty site before line said says = absurd says
 as_read kinds.NoDirective site before line said says = absurd says
 as_read kinds.Ends site before line said says = rw says refl
@@ -158,7 +161,7 @@ params_line_wrong site before (f ∷ fs) fault is = params_wrong site before f f
 
 vsns_line_wrong : (site : Field) (before : List Reading) (number : ℕ) (fields : List Field) (fault : ConfFault) → vsns_reading site before number fields ≡ Err fault → WrongVsns site before number fields fault
 vsns_line_wrong site before number [] fault is = fault_is MissingField fault is
-vsns_line_wrong site before number (f ∷ fs) fault is = vsns_wrong site before number f fs fault (first_failed (vsns_line site (file_systems_of before) (sets_of before) (pools_of before) (room_of before) number f fs) (λ line. readings.Vsns line) fault is)
+vsns_line_wrong site before number (f ∷ fs) fault is = vsns_wrong site before number f fs fault (first_failed (vsns_line site (file_systems_of before) (sets_of before) (pools_of before) (length (exprs_of before)) number f fs) (λ line. readings.Vsns line) fault is)
 
 within_wrong : (section : Section) (site : Field) (before : List Reading) (line : Line) (fault : ConfFault) → within_reading section site before line ≡ Err fault → WrongWithin section site before line fault
 within_wrong Params site before line fault is = params_line_wrong site before line.fields fault is
@@ -166,6 +169,7 @@ within_wrong VsnPools site before line fault is = form_wrong (pool_form line.num
 within_wrong Vsns site before line fault is = vsns_line_wrong site before line.number line.fields fault is
 
 as_wrong : (kind : LineKind) (site : Field) (before : List Reading) (line : Line) (fault : ConfFault) → line_as kind site before line ≡ Err fault → WrongAs kind site before line fault
+unfolding value_reading
 as_wrong kinds.Empty site before line fault is = fault_is MissingField fault is
 as_wrong kinds.NoDirective site before line fault is = fault_is UnknownDirective fault is
 as_wrong kinds.Ends site before line fault is = absurd cc
@@ -205,6 +209,7 @@ within_refused VsnPools site before line fault wrong = rw (form_refused (pool_fo
 within_refused Vsns site before line fault wrong = vsns_line_refused site before line.number line.fields fault wrong
 
 as_refused : (kind : LineKind) (site : Field) (before : List Reading) (line : Line) (fault : ConfFault) → WrongAs kind site before line fault → line_as kind site before line ≡ Err fault
+unfolding value_reading
 as_refused kinds.Empty site before line fault wrong = rw wrong refl
 as_refused kinds.NoDirective site before line fault wrong = rw wrong refl
 as_refused kinds.Ends site before line fault wrong = absurd wrong

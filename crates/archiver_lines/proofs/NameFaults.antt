@@ -9,9 +9,10 @@ use Rattle.site_text.specs.Fields.{Field, Read, ◌>>=◌, wanted, refuse_if}
 use Rattle.archiver_lines.specs.declared.reading.CopyName.{CopyName}
 use Rattle.archiver_lines.specs.declared.reading.CopyName.TheVariants.{AllSets, AllSetsCopy, SetCopy}
 use Rattle.archiver_lines.specs.declared.reading.Reading.{Reading}
-use Rattle.archiver_lines.specs.Names.{is_known, copy_number, last_dot, around_last_dot, numbered_name, name_by_parts, copy_name}
+use Rattle.archiver_lines.specs.Names.{is_known, last_dot, around_last_dot}
+use Rattle.archiver_lines.specs.NameSteps.{copy_number, numbered_name, name_by_parts, copy_name}
 use Rattle.archiver_lines.specs.Told.{file_systems_of, sets_of}
-use Rattle.archiver_lines.specs.Wrong.{IsNumbered, NameWrong}
+use Rattle.archiver_lines.specs.NameRules.{IsNumbered, NameWrong}
 use Rattle.archiver_lines.proofs.Tests.{other, is_other}
 
 abbrev told_name : CopyName → Read CopyName

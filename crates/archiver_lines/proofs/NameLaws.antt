@@ -8,9 +8,10 @@ use Rattle.site_text.specs.Fields.{Field, Read, ◌>>=◌, wanted, refuse_if}
 use Rattle.archiver_lines.specs.declared.reading.CopyName.{CopyName}
 use Rattle.archiver_lines.specs.declared.reading.CopyName.TheVariants.{AllSets, AllSetsCopy, SetCopy}
 use Rattle.archiver_lines.specs.declared.reading.Reading.{Reading}
-use Rattle.archiver_lines.specs.Names.{is_known, copy_number, around_last_dot, numbered_name, name_by_parts, copy_name}
+use Rattle.archiver_lines.specs.Names.{is_known, around_last_dot}
+use Rattle.archiver_lines.specs.NameSteps.{copy_number, numbered_name, name_by_parts, copy_name}
 use Rattle.archiver_lines.specs.Told.{file_systems_of, sets_of}
-use Rattle.archiver_lines.specs.Parts.{NameSays}
+use Rattle.archiver_lines.specs.NameRules.{NameSays}
 use Rattle.archiver_lines.proofs.Tests.{bind_ok, wanted_said, not_refused, not_false, same, is_same, other, is_other}
 
 pub name_read : (site : Field) (before : List Reading) (field : Field) (name : CopyName) → NameSays site before field name → copy_name site (file_systems_of before) (sets_of before) field ≡ Ok name

@@ -1,24 +1,25 @@
 -- Lines of params and vsns are refused as what is wrong with them.
-use Rattle.std.proofs.Common.{◌≡◌, ℕ, ◌<◌, ◌≤◌, Bool, true, false, List, [], ◌∷◌, Ok, Err, refl, sym, ap, ◌∙◌, ◌⊎◌, inl, inr}
+use Rattle.std.proofs.Common.{◌≡◌, ℕ, ◌<◌, ◌≤◌, Bool, true, false, length, ◌+◌, List, [], ◌∷◌, Ok, Err, refl, sym, ap, ◌∙◌, ◌⊎◌, inl, inr}
 use Rattle.std.specs.Prelude.{not, nat_lt}
 use Rattle.std.proofs.lemmas.Bool.{ltb-true, lt-ltb}
 use Rattle.site_text.specs.declared.fault.ConfFault.{ConfFault}
 use Rattle.site_text.specs.declared.fault.ConfFault.TheVariants.{MissingField, BadValue, TooMany}
 use Rattle.site_text.specs.Values.{is_media}
 use Rattle.site_text.specs.Fields.{Field, Read, ◌>>=◌, map_read, next_field, refuse_if}
-use Rattle.site_text.specs.Options.{options_of}
+use Rattle.site_text.specs.OptionSteps.{options_of}
 use Rattle.site_text.proofs.OptionLaws.{options_wrong, options_refused}
 use Rattle.archiver_lines.specs.declared.param_options.Given.{Given}
 use Rattle.archiver_lines.specs.declared.reading.CopyName.{CopyName}
 use Rattle.archiver_lines.specs.declared.reading.Reading.{Reading}
 use Rattle.archiver_lines.specs.declared.reading.ParamsLine.{ParamsLine}
 use Rattle.archiver_lines.specs.declared.reading.VsnExpr.{VsnExpr}
-use Rattle.archiver_lines.specs.Names.{copy_name}
+use Rattle.archiver_lines.specs.NameSteps.{copy_name}
 use Rattle.archiver_lines.specs.ParamOptions.{params_table}
-use Rattle.archiver_lines.specs.SectionLines.{item_table, items_of, all_exprs, exprs_count, params_line, vsns_line}
-use Rattle.archiver_lines.specs.Told.{file_systems_of, sets_of, params_of, pools_of, room_of}
-use Rattle.archiver_lines.specs.Parts.{NameSays}
-use Rattle.archiver_lines.specs.Wrong.{ParamsWrong, ItemsWrong, BehindName, VsnsWrong}
+use Rattle.archiver_lines.specs.SectionRules.{item_table, all_exprs, exprs_count, ParamsWrong, ItemsWrong, BehindName, VsnsWrong}
+use Rattle.archiver_lines.specs.SectionSteps.{items_of, params_line, vsns_line}
+use Rattle.archiver_lines.specs.Limits.{most_exprs}
+use Rattle.archiver_lines.specs.Told.{exprs_of, file_systems_of, sets_of, params_of, pools_of}
+use Rattle.archiver_lines.specs.NameRules.{NameSays}
 use Rattle.archiver_lines.proofs.NameLaws.{name_read, name_said}
 use Rattle.archiver_lines.proofs.NameFaults.{name_wrong, name_refused}
 use Rattle.archiver_lines.proofs.SectionLaws.{params_read_of, params_told, vsns_read_of, exprs_read, some_read, media_read, room_read, items_are, some_fields}
@@ -97,13 +98,13 @@ media_refused before number name (media ∷ items) fault (inr (legal, wrong)) = 
 
 -- what is wrong behind a name, the room first
 abbrev RoomWrong : List Reading → ℕ → List Field → ConfFault → Type 0
-RoomWrong before number fields fault = ((room_of before < exprs_count (pools_of before) fields) × (fault ≡ TooMany))
-    ⊎ ((exprs_count (pools_of before) fields ≤ room_of before) × BehindName before number fields fault)
+RoomWrong before number fields fault = ((most_exprs < length (exprs_of before) + exprs_count (pools_of before) fields) × (fault ≡ TooMany))
+    ⊎ ((length (exprs_of before) + exprs_count (pools_of before) fields ≤ most_exprs) × BehindName before number fields fault)
 
 room_wrong : (before : List Reading) (number : ℕ) (name : CopyName) (fields : List Field) (fault : ConfFault) → room_read before number name fields ≡ Err fault → RoomWrong before number fields fault
-room_wrong before number name fields fault is = go (nat_lt (room_of before) (exprs_count (pools_of before) fields)) refl is
+room_wrong before number name fields fault is = go (nat_lt most_exprs (length (exprs_of before) + exprs_count (pools_of before) fields)) refl is
   where
-    go : (b : Bool) → nat_lt (room_of before) (exprs_count (pools_of before) fields) ≡ b → (refuse_if b TooMany >>= λ u. media_read before number name fields) ≡ Err fault → RoomWrong before number fields fault
+    go : (b : Bool) → nat_lt most_exprs (length (exprs_of before) + exprs_count (pools_of before) fields) ≡ b → (refuse_if b TooMany >>= λ u. media_read before number name fields) ≡ Err fault → RoomWrong before number fields fault
     go true p is = inl (ltb-true _ _ p, (let e : TooMany ≡ fault = cc in sym e))
     go false p is = inr (is_not_less _ _ p, media_wrong before number name fields fault is)
 

@@ -1,5 +1,5 @@
 -- Lines of params and vsns are read as what they say, and say what they are read as.
-use Rattle.std.proofs.Common.{◌≡◌, ℕ, ◌≤◌, Bool, true, false, cond, List, [], ◌∷◌, ◌++◌, length, Ok, Err, refl, sym, ap, subst, ◌∙◌, codes, arith}
+use Rattle.std.proofs.Common.{◌≡◌, ℕ, ◌≤◌, ◌+◌, Bool, true, false, cond, List, [], ◌∷◌, ◌++◌, length, Ok, Err, refl, sym, ap, subst, ◌∙◌, codes, arith}
 use Rattle.std.specs.Prelude.{◌==◌, not, nat_lt}
 use Rattle.std.specs.Str.{bytes_eq}
 use Rattle.std.proofs.lemmas.Grind.{flat_map-append}
@@ -8,7 +8,8 @@ use Rattle.std.proofs.lemmas.Bool.{eqb-true}
 use Rattle.site_text.specs.declared.fault.ConfFault.TheVariants.{MissingField, BadValue, UnknownPool, TooMany}
 use Rattle.site_text.specs.Values.{is_media}
 use Rattle.site_text.specs.Fields.{Field, Read, ◌>>=◌, map_read, next_field, refuse_if}
-use Rattle.site_text.specs.Options.{OptionsSay, options_of}
+use Rattle.site_text.specs.OptionRules.{OptionsSay}
+use Rattle.site_text.specs.OptionSteps.{options_of}
 use Rattle.site_text.proofs.OptionLaws.{options_said, options_read}
 use Rattle.archiver_lines.specs.declared.param_options.Given.{Given}
 use Rattle.archiver_lines.specs.declared.reading.CopyName.{CopyName}
@@ -17,11 +18,12 @@ use Rattle.archiver_lines.specs.declared.reading.ParamsLine.{ParamsLine}
 use Rattle.archiver_lines.specs.declared.reading.PoolLine.{PoolLine}
 use Rattle.archiver_lines.specs.declared.reading.VsnExpr.{VsnExpr}
 use Rattle.archiver_lines.specs.declared.reading.VsnsLine.{VsnsLine}
-use Rattle.archiver_lines.specs.Names.{copy_name}
+use Rattle.archiver_lines.specs.NameSteps.{copy_name}
 use Rattle.archiver_lines.specs.ParamOptions.{params_table}
-use Rattle.archiver_lines.specs.SectionLines.{expr_of, pool_exprs, is_pool, item_table, items_of, all_exprs, exprs_count, params_line, vsns_line}
-use Rattle.archiver_lines.specs.Told.{file_systems_of, sets_of, params_of, pools_of, room_of}
-use Rattle.archiver_lines.specs.Says.{ParamsSays, VsnsSays}
+use Rattle.archiver_lines.specs.SectionRules.{expr_of, pool_exprs, is_pool, item_table, all_exprs, exprs_count, ParamsSays, VsnsSays}
+use Rattle.archiver_lines.specs.SectionSteps.{items_of, params_line, vsns_line}
+use Rattle.archiver_lines.specs.Limits.{most_exprs}
+use Rattle.archiver_lines.specs.Told.{exprs_of, file_systems_of, sets_of, params_of, pools_of}
 use Rattle.archiver_lines.proofs.Tests.{bind_ok, not_refused, not_false, not_less, is_not_less}
 use Rattle.archiver_lines.proofs.NameLaws.{name_read, name_said}
 use Rattle.archiver_lines.proofs.AssignLaws.{next_said}
@@ -91,7 +93,7 @@ items_are pools media line given (f ∷ g ∷ fields) = next_step pools media li
 -- ---- vsns
 
 abbrev pub vsns_read_of : Field → List Reading → ℕ → Field → List Field → Read VsnsLine
-vsns_read_of site before number field fields = vsns_line site (file_systems_of before) (sets_of before) (pools_of before) (room_of before) number field fields
+vsns_read_of site before number field fields = vsns_line site (file_systems_of before) (sets_of before) (pools_of before) (length (exprs_of before)) number field fields
 
 items_read : (pools : List PoolLine) (media : Field) (line : ℕ) (fields : List Field) (given : List (List VsnExpr)) (exprs : List VsnExpr) → OptionsSay (item_table pools media line) [] fields given → exprs ≡ all_exprs given
     → items_of pools media line [] fields ≡ Ok exprs
@@ -109,7 +111,7 @@ unfolding vsns_line next_field
 vsns_read site before number field fields line s =
     let read = items_read (pools_of before) s.media number (s.first ∷ s.rest) s.given line.exprs s.items s.is in
     let count = read_counted (pools_of before) s.media number (s.first ∷ s.rest) line.exprs read in
-    rw (name_read site before field line.name s.name, s.cut, count, not_less (room_of before) (length line.exprs) s.room, s.legal, some_fields s.first s.rest, read) refl
+    rw (name_read site before field line.name s.name, s.cut, count, not_less most_exprs (length (exprs_of before) + length line.exprs) s.few, s.legal, some_fields s.first s.rest, read) refl
 
 given_said : (pools : List PoolLine) (media : Field) (line : ℕ) (fields : List Field) (exprs : List VsnExpr) (read : Read (List (List VsnExpr))) → options_of (item_table pools media line) [] fields ≡ read → map_read all_exprs read ≡ Ok exprs
     → (given : List (List VsnExpr)) × OptionsSay (item_table pools media line) [] fields given × (exprs ≡ all_exprs given)
@@ -140,7 +142,7 @@ media_read before number name fields = next_field fields >>= λ media. legal_rea
 
 -- where there is room for what these fields say
 abbrev pub room_read : List Reading → ℕ → CopyName → List Field → Read VsnsLine
-room_read before number name fields = refuse_if (nat_lt (room_of before) (exprs_count (pools_of before) fields)) TooMany >>= λ u. media_read before number name fields
+room_read before number name fields = refuse_if (nat_lt most_exprs (length (exprs_of before) + exprs_count (pools_of before) fields)) TooMany >>= λ u. media_read before number name fields
 
 abbrev Split : List Field → Type 0
 Split fields = (first : Field) × (rest : List Field) × (fields ≡ first ∷ rest)
@@ -153,7 +155,7 @@ pub vsns_said : (site : Field) (before : List Reading) (number : ℕ) (field : F
 unfolding vsns_line
 vsns_said site before number field fields line is =
     let n = bind_ok (copy_name site (file_systems_of before) (sets_of before) field) (λ name. room_read before number name fields) line is in
-    let r = bind_ok (refuse_if (nat_lt (room_of before) (exprs_count (pools_of before) fields)) TooMany) (λ u. media_read before number n.0 fields) line n.2 in
+    let r = bind_ok (refuse_if (nat_lt most_exprs (length (exprs_of before) + exprs_count (pools_of before) fields)) TooMany) (λ u. media_read before number n.0 fields) line n.2 in
     let m = bind_ok (next_field fields) (λ media. legal_read before number n.0 media) line r.2 in
     let l = bind_ok (refuse_if (not (is_media m.0.0)) BadValue) (λ u. some_read before number n.0 m.0) line m.2 in
     let s = bind_ok (refuse_if (length m.0.1 == 0) MissingField) (λ u. exprs_read before number n.0 m.0) line l.2 in
@@ -173,5 +175,5 @@ vsns_said site before number field fields line is =
       given = g.0;
       items = subst (λ (fs : List Field). OptionsSay (item_table (pools_of before) m.0.0 number) [] fs g.0) split.2 g.1;
       is = g.2;
-      room = subst (λ (n : ℕ). n ≤ room_of before) count (is_not_less (room_of before) (exprs_count (pools_of before) fields) (not_refused _ TooMany r.0 r.1));
+      few = subst (λ (n : ℕ). length (exprs_of before) + n ≤ most_exprs) count (is_not_less most_exprs (length (exprs_of before) + exprs_count (pools_of before) fields) (not_refused _ TooMany r.0 r.1));
     })

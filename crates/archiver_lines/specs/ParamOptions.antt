@@ -1,13 +1,12 @@
 -- The options of params.
-use Rattle.std.specs.Prelude.{ℕ, ◌-◌, ◌^◌, List, [], ◌∷◌, codes, Option, Some, None, Ok, Bool, true, false, ◌&&◌, ◌||◌, not, if◌then◌else◌, drop, nat_eq}
+use Rattle.std.specs.Prelude.{List, [], ◌∷◌, codes, length, Option, Some, None, Bool, true, false, ◌&&◌, ◌||◌, not, if◌then◌else◌, drop, nat_eq}
 use Rattle.std.specs.List.{list_any, starts_with}
-use Rattle.site_text.specs.Fields.{Field, Read, ◌>>=◌}
-use Rattle.site_text.specs.Words.{option_named, word_value}
-use Rattle.site_text.specs.Values.{size_value, age_value, number_value}
-use Rattle.site_text.specs.Options.{Options}
+use Rattle.site_text.specs.Fields.{Field, Read, map_read}
+use Rattle.site_text.specs.Words.{word_value}
+use Rattle.site_text.specs.Values.{any_value, age_value, number_value}
+use Rattle.site_text.specs.Options.{Options, OptionForm, Alone, WithValue, listed}
 use Rattle.archiver_lines.specs.Names.{same_name}
-use Rattle.archiver_lines.specs.declared.param_options.ParamOption.{ParamOption}
-use Rattle.archiver_lines.specs.declared.param_options.ParamOption.TheVariants as options
+use Rattle.archiver_lines.specs.Limits.{most_number, any_number, any_size}
 use Rattle.archiver_lines.specs.declared.param_options.Given.{Given}
 use Rattle.archiver_lines.specs.declared.param_options.Given.TheVariants as given
 use Rattle.archiver_lines.specs.declared.param_options.Join.{Join}
@@ -23,55 +22,6 @@ use Rattle.archiver_lines.specs.declared.param_options.Unarchage.TheVariants as 
 use Rattle.archiver_lines.specs.declared.reading.CopyName.{CopyName}
 use Rattle.archiver_lines.specs.declared.reading.ParamsLine.{ParamsLine}
 
-abbrev pub param_options : List (Field × ParamOption)
-param_options =
-    (codes "-archmax", options.Archmax)
-    ∷ (codes "-fillvsns", options.Fillvsns)
-    ∷ (codes "-join", options.Join)
-    ∷ (codes "-sort", options.Sort)
-    ∷ (codes "-rsort", options.Rsort)
-    ∷ (codes "-reserve", options.Reserve)
-    ∷ (codes "-ovflmin", options.Ovflmin)
-    ∷ (codes "-startage", options.Startage)
-    ∷ (codes "-startcount", options.Startcount)
-    ∷ (codes "-startsize", options.Startsize)
-    ∷ (codes "-unarchage", options.Unarchage)
-    ∷ (codes "-recycle_hwm", options.RecycleHwm)
-    ∷ (codes "-recycle_mingain", options.RecycleMingain)
-    ∷ (codes "-recycle_vsncount", options.RecycleVsncount)
-    ∷ (codes "-recycle_dataquantity", options.RecycleDataquantity)
-    ∷ (codes "-recycle_ignore", options.RecycleIgnore)
-    ∷ (codes "-lock", options.Bare)
-    ∷ (codes "-tapenonstop", options.Bare)
-    ∷ (codes "-bufsize", options.AnyNumber)
-    ∷ (codes "-recycle_mailaddr", options.AnyWord)
-    ∷ (codes "-drives", options.AnyNumber)
-    ∷ (codes "-drivemin", options.AnySize)
-    ∷ (codes "-drivemax", options.AnySize)
-    ∷ []
-
--- what stands behind `-bufsize=`, where the field begins so
-unfoldable pub bufsize_in : Field → Option Field
-bufsize_in field = if starts_with nat_eq field (codes "-bufsize=") then Some (drop 9 field) else None
-
--- the option that a field is in the table
-unfoldable pub listed_option : Field → Read ParamOption
-listed_option field = option_named param_options field
-
-abbrev pub by_bufsize : Field → Option Field → Read ParamOption
-by_bufsize field (Some number) = number_value 0 999999999 number >>= λ n. Ok options.Bare
-by_bufsize field None = listed_option field
-
--- the option that a field is; `-bufsize=N` takes no other value
-abbrev pub option_field : Field → Read ParamOption
-option_field field = by_bufsize field (bufsize_in field)
-
-abbrev pub takes_value : ParamOption → Bool
-takes_value options.Fillvsns = false
-takes_value options.RecycleIgnore = false
-takes_value options.Bare = false
-takes_value option = true
-
 abbrev pub join_words : List (Field × Join)
 join_words = (codes "path", joins.Path) ∷ (codes "none", joins.None) ∷ []
 
@@ -86,37 +36,63 @@ reserve_words =
 abbrev pub unarchage_words : List (Field × Unarchage)
 unarchage_words = (codes "access", unarchages.Access) ∷ (codes "modify", unarchages.Modify) ∷ []
 
-abbrev pub any_size : Field → Read ℕ
-any_size field = size_value 0 (2 ^ 50 - 1) field
+-- ---- the table
 
-abbrev pub sort_value : Bool → Field → Read Given
-sort_value reverse field = word_value sort_words field >>= λ key. Ok (given.Sort (record { key = key; reverse = reverse }))
+-- one that takes a value of a kind, and what it gives with it
+abbrev pub valued : {A : Type 0} → (A → Given) → (Field → Read A) → OptionForm Given
+valued gives kind = WithValue (λ field. map_read gives (kind field))
 
--- what each gives with its value
-abbrev pub option_value : ParamOption → Field → Read Given
-option_value options.Archmax field = any_size field >>= λ n. Ok (given.Archmax n)
-option_value options.Join field = word_value join_words field >>= λ w. Ok (given.Join w)
-option_value options.Sort field = sort_value false field
-option_value options.Rsort field = sort_value true field
-option_value options.Reserve field = word_value reserve_words field >>= λ w. Ok (given.Reserve w)
-option_value options.Ovflmin field = any_size field >>= λ n. Ok (given.Ovflmin n)
-option_value options.Startage field = age_value field >>= λ n. Ok (given.Startage n)
-option_value options.Startcount field = number_value 1 999999999 field >>= λ n. Ok (given.Startcount n)
-option_value options.Startsize field = any_size field >>= λ n. Ok (given.Startsize n)
-option_value options.Unarchage field = word_value unarchage_words field >>= λ w. Ok (given.Unarchage w)
-option_value options.RecycleHwm field = number_value 0 100 field >>= λ n. Ok (given.RecycleHwm n)
-option_value options.RecycleMingain field = number_value 0 100 field >>= λ n. Ok (given.RecycleMingain n)
-option_value options.RecycleVsncount field = number_value 0 999999999 field >>= λ n. Ok (given.RecycleVsncount n)
-option_value options.RecycleDataquantity field = any_size field >>= λ n. Ok (given.RecycleDataquantity n)
-option_value options.AnyNumber field = number_value 0 999999999 field >>= λ n. Ok given.Nothing
-option_value options.AnySize field = any_size field >>= λ n. Ok given.Nothing
-option_value option field = Ok given.Nothing
+-- the same of one without effect
+abbrev pub ignored : {A : Type 0} → (Field → Read A) → OptionForm Given
+ignored kind = valued (λ value. given.Nothing) kind
 
--- what each gives that takes no value
-abbrev pub option_alone : ParamOption → Given
-option_alone options.Fillvsns = given.Fillvsns
-option_alone options.RecycleIgnore = given.RecycleIgnore
-option_alone option = given.Nothing
+abbrev pub sort_by : SortKey → Bool → Given
+sort_by key reverse = given.Sort (record { key = key; reverse = reverse })
+
+abbrev pub param_options : List (Field × OptionForm Given)
+param_options =
+    (codes "-archmax", valued given.Archmax any_size)
+    ∷ (codes "-fillvsns", Alone given.Fillvsns)
+    ∷ (codes "-join", valued given.Join (word_value join_words))
+    ∷ (codes "-sort", valued (λ key. sort_by key false) (word_value sort_words))
+    ∷ (codes "-rsort", valued (λ key. sort_by key true) (word_value sort_words))
+    ∷ (codes "-reserve", valued given.Reserve (word_value reserve_words))
+    ∷ (codes "-ovflmin", valued given.Ovflmin any_size)
+    ∷ (codes "-startage", valued given.Startage age_value)
+    ∷ (codes "-startcount", valued given.Startcount (number_value 1 most_number))
+    ∷ (codes "-startsize", valued given.Startsize any_size)
+    ∷ (codes "-unarchage", valued given.Unarchage (word_value unarchage_words))
+    ∷ (codes "-recycle_hwm", valued given.RecycleHwm (number_value 0 100))
+    ∷ (codes "-recycle_mingain", valued given.RecycleMingain (number_value 0 100))
+    ∷ (codes "-recycle_vsncount", valued given.RecycleVsncount any_number)
+    ∷ (codes "-recycle_dataquantity", valued given.RecycleDataquantity any_size)
+    ∷ (codes "-recycle_ignore", Alone given.RecycleIgnore)
+    ∷ (codes "-lock", Alone given.Nothing)
+    ∷ (codes "-tapenonstop", Alone given.Nothing)
+    ∷ (codes "-bufsize", ignored any_number)
+    ∷ (codes "-recycle_mailaddr", ignored any_value)
+    ∷ (codes "-drives", ignored any_number)
+    ∷ (codes "-drivemin", ignored any_size)
+    ∷ (codes "-drivemax", ignored any_size)
+    ∷ []
+
+-- the option that a field is in the table
+unfoldable pub listed_option : Field → Read (OptionForm Given)
+listed_option field = listed param_options field
+
+-- what stands behind `-bufsize=`, where the field begins so
+unfoldable pub bufsize_in : Field → Option Field
+bufsize_in field = if starts_with nat_eq field (codes "-bufsize=") then Some (drop (length (codes "-bufsize=")) field) else None
+
+-- The option that a field is: `-bufsize=N` with its number in the field itself, or one of the table.
+abbrev pub param_option : Field → Read (OptionForm Given)
+param_option field = by_bufsize (bufsize_in field)
+  where
+    by_bufsize : Option Field → Read (OptionForm Given)
+    by_bufsize (Some number) = map_read (λ n. Alone given.Nothing) (any_number number)
+    by_bufsize None = listed_option field
+
+-- ---- options that exclude each other
 
 -- dir, user or group, of which a reservation has at most one
 abbrev pub owner_of : Given → Option Owner
@@ -139,12 +115,9 @@ exclude a b = are_two_owners (owner_of a) (owner_of b)
 abbrev pub exclude_any : List Given → Given → Bool
 exclude_any before g = list_any (λ b. exclude b g) before
 
--- the options for a name, behind these lines of params; the uses of -reserve for one name exclude each other over all its lines
-abbrev pub params_table : List ParamsLine → CopyName → Options ParamOption Given
+-- The options for a name, behind these lines of params. The uses of -reserve for one name exclude each other over all its lines.
+abbrev pub params_table : List ParamsLine → CopyName → Options Given
 params_table lines name = record {
-  named = option_field;
-  takes_value = takes_value;
-  value = option_value;
-  alone = option_alone;
+  option = param_option;
   excludes = λ before g. exclude_any before g || list_any (λ l. same_name l.name name && exclude_any l.given g) lines;
 }

@@ -1,5 +1,7 @@
--- What the lines so far told, by what they said, the latest first.
-use Rattle.std.specs.Prelude.{◌≡◌, ℕ, ◌-◌, List, [], ◌∷◌, ◌++◌, length, Option, Some, None, Bool, true, false, if◌then◌else◌, option_map}
+-- What the lines so far told, by what each of them said, in the order of the file.
+use Rattle.std.specs.Prelude.{ℕ, List, [], ◌∷◌, ◌++◌, flat_map, fold, Option, Some, None, Bool, true, false, if◌then◌else◌, option_map, unwrap_or}
+use Rattle.std.specs.List.{list_any}
+use Rattle.std.specs.Option.{option_map_or}
 use Rattle.std.specs.Str.{bytes_eq}
 use Rattle.site_text.specs.Fields.{Field}
 use Rattle.archiver_lines.specs.declared.reading.Reading.{Reading}
@@ -14,105 +16,119 @@ use Rattle.archiver_lines.specs.declared.reading.VsnsLine.{VsnsLine}
 use Rattle.archiver_lines.specs.declared.reading.Opened.{Opened}
 use Rattle.archiver_lines.specs.declared.reading.Section.{Section}
 use Rattle.archiver_lines.specs.declared.reading.Section.TheVariants as sections
-use Rattle.archiver_lines.specs.declared.known.Known.{Known}
+use Rattle.archiver_lines.specs.declared.reading.VsnExpr.{VsnExpr}
+use Rattle.site_text.specs.LastValues.{all_of, last_of}
 use Rattle.archiver_lines.specs.Names.{is_in}
 
--- the section that is open
+-- ---- sections
+
+-- the section that a line leaves open, where it begins or ends one
+abbrev pub opened_by : Reading → Option (Option Opened)
+opened_by (Opens opened) = Some (Some opened)
+opened_by Closes = Some None
+opened_by r = None
+
+-- the section that is open: the last line that begins or ends one tells it
 abbrev pub opened_of : List Reading → Option Opened
-opened_of [] = None
-opened_of (Opens opened ∷ before) = Some opened
-opened_of (Closes ∷ before) = None
-opened_of (r ∷ before) = opened_of before
+opened_of said = unwrap_or (last_of opened_by said) None
 
 -- the line on which it began
 abbrev pub open_line : List Reading → Option ℕ
 open_line said = option_map (λ opened. opened.line) (opened_of said)
 
+-- ---- file systems
+
+abbrev pub file_system_in : Reading → Option Field
+file_system_in (FileSystem name) = Some name
+file_system_in r = None
+
+abbrev pub file_systems_of : List Reading → List Field
+file_systems_of said = all_of file_system_in said
+
 -- the part of a file system
 abbrev pub part_named : Field → Field → Local
 part_named site name = if bytes_eq name site then Site else Elsewhere
 
--- in whose part the next line stands: that of the latest `fs =`
+-- in whose part the next line stands: that of the last `fs =`
 abbrev pub part_of : Field → List Reading → Local
-part_of site [] = Global
-part_of site (FileSystem name ∷ before) = part_named site name
-part_of site (r ∷ before) = part_of site before
+part_of site said = option_map_or (part_named site) (last_of file_system_in said) Global
 
-abbrev pub file_systems_of : List Reading → List Field
-file_systems_of [] = []
-file_systems_of (FileSystem name ∷ before) = file_systems_of before ++ name ∷ []
-file_systems_of (r ∷ before) = file_systems_of before
+-- ---- sets
 
--- the set to which a copy line would belong: that of the nearest assignment or `fs =`
+-- the set to which copy lines behind this line belong
+abbrev pub target_in : Reading → Option Field
+target_in (Assign a) = Some a.set
+target_in (FileSystem name) = Some name
+target_in r = None
+
+-- the set to which a copy line would belong: that of the nearest assignment or `fs =` above
 abbrev pub target_of : List Reading → Option Field
-target_of [] = None
-target_of (Assign name a ∷ before) = Some name
-target_of (FileSystem name ∷ before) = Some name
-target_of (r ∷ before) = target_of before
+target_of said = last_of target_in said
 
-abbrev pub assignments_of : List Reading → List Assignment
-assignments_of [] = []
-assignments_of (Assign name a ∷ before) = assignments_of before ++ a ∷ []
-assignments_of (r ∷ before) = assignments_of before
+-- the set that a line mentions
+abbrev pub mentioned_in : Reading → Option Field
+mentioned_in (Assign a) = Some a.set
+mentioned_in (Copy line) = Some line.set
+mentioned_in r = None
 
--- a set that is mentioned is there from then on
+-- a name behind others, where it is none of them
 abbrev pub with_set : List Field → Field → List Field
 with_set sets name = if is_in sets name then sets else sets ++ name ∷ []
 
--- the sets, in the order of their first mention by an assignment or a copy line
+-- the sets, each once, in the order of their first mention by an assignment or a copy line
 abbrev pub sets_of : List Reading → List Field
-sets_of [] = []
-sets_of (Assign name a ∷ before) = with_set (sets_of before) name
-sets_of (Copy line ∷ before) = with_set (sets_of before) line.set
-sets_of (r ∷ before) = sets_of before
+sets_of said = fold with_set [] (all_of mentioned_in said)
+
+-- ---- lines of one kind, in the order of the file
+
+abbrev pub assignment_in : Reading → Option Assignment
+assignment_in (Assign a) = Some a
+assignment_in r = None
+
+abbrev pub assignments_of : List Reading → List Assignment
+assignments_of said = all_of assignment_in said
+
+abbrev pub copy_in : Reading → Option SetCopy
+copy_in (Copy line) = Some line
+copy_in r = None
 
 abbrev pub copies_of : List Reading → List SetCopy
-copies_of [] = []
-copies_of (Copy line ∷ before) = copies_of before ++ line ∷ []
-copies_of (r ∷ before) = copies_of before
+copies_of said = all_of copy_in said
+
+abbrev pub params_in : Reading → Option ParamsLine
+params_in (Params line) = Some line
+params_in r = None
 
 abbrev pub params_of : List Reading → List ParamsLine
-params_of [] = []
-params_of (Params line ∷ before) = params_of before ++ line ∷ []
-params_of (r ∷ before) = params_of before
+params_of said = all_of params_in said
+
+abbrev pub pool_in : Reading → Option PoolLine
+pool_in (Pool line) = Some line
+pool_in r = None
 
 abbrev pub pools_of : List Reading → List PoolLine
-pools_of [] = []
-pools_of (Pool line ∷ before) = pools_of before ++ line ∷ []
-pools_of (r ∷ before) = pools_of before
+pools_of said = all_of pool_in said
+
+abbrev pub vsns_in : Reading → Option VsnsLine
+vsns_in (Vsns line) = Some line
+vsns_in r = None
 
 abbrev pub vsns_of : List Reading → List VsnsLine
-vsns_of [] = []
-vsns_of (Vsns line ∷ before) = vsns_of before ++ line ∷ []
-vsns_of (r ∷ before) = vsns_of before
+vsns_of said = all_of vsns_in said
 
--- how many more expressions for volumes there may be
-abbrev pub room_of : List Reading → ℕ
-room_of [] = 256
-room_of (Vsns line ∷ before) = room_of before - length line.exprs
-room_of (r ∷ before) = room_of before
+-- the expressions of all vsns lines
+abbrev pub exprs_of : List Reading → List VsnExpr
+exprs_of said = flat_map (λ line. line.exprs) (vsns_of said)
 
-abbrev pub is_vsns : Section → Bool
-is_vsns sections.Vsns = true
-is_vsns section = false
+-- it begins a vsns section
+abbrev pub begins_vsns : Reading → Bool
+begins_vsns (Opens opened) = is_vsns opened.section
+  where
+    is_vsns : Section → Bool
+    is_vsns sections.Vsns = true
+    is_vsns section = false
+begins_vsns r = false
 
 -- there was a vsns section
 abbrev pub has_vsns_of : List Reading → Bool
-has_vsns_of [] = false
-has_vsns_of (Opens opened ∷ before) = if is_vsns opened.section then true else has_vsns_of before
-has_vsns_of (r ∷ before) = has_vsns_of before
-
--- what these readings told
-pub record Knows (site : Field) (said : List Reading) (known : Known) : Type 0 where
-  pub opened : known.opened ≡ opened_of said
-  pub local : known.local ≡ part_of site said
-  pub file_systems : known.file_systems ≡ file_systems_of said
-  pub target : known.target ≡ target_of said
-  pub assignments : known.assignments ≡ assignments_of said
-  pub sets : known.sets ≡ sets_of said
-  pub copies : known.copies ≡ copies_of said
-  pub params : known.params ≡ params_of said
-  pub pools : known.pools ≡ pools_of said
-  pub vsns : known.vsns ≡ vsns_of said
-  pub room : known.room ≡ room_of said
-  pub has_vsns : known.has_vsns ≡ has_vsns_of said
+has_vsns_of said = list_any begins_vsns said

@@ -1,44 +1,33 @@
--- Value lines of archiver.cmd.
-use Rattle.std.specs.Prelude.{List, [], ◌∷◌, codes, None, Ok, Err, option_map, if◌then◌else◌}
+-- Value lines of archiver.cmd: each directive with the form of its values.
+use Rattle.std.specs.Prelude.{[], ◌∷◌, codes, Ok, Err, if◌then◌else◌}
 use Rattle.std.specs.Str.{bytes_eq}
 use Rattle.site_text.specs.declared.fault.ConfFault.TheVariants.{BadValue}
-use Rattle.site_text.specs.Fields.{Field}
-use Rattle.site_text.specs.Words.{named}
-use Rattle.site_text.specs.Forms.{Form, Kind}
-use Rattle.site_text.specs.Kinds.{Value, Text, name_field, text_at, ignored_form}
+use Rattle.site_text.specs.Fields.{Field, Read}
+use Rattle.site_text.specs.Values.{name_value}
+use Rattle.site_text.specs.Forms.{one_text, ignored_form}
 use Rattle.site_text.specs.Directives.{FormTable}
-use Rattle.archiver_lines.specs.declared.value_lines.Directive.{Directive}
-use Rattle.archiver_lines.specs.declared.value_lines.Directive.TheVariants.{FileSystem, Archivemeta, Ignored}
 use Rattle.archiver_lines.specs.declared.reading.Reading.{Reading}
 use Rattle.archiver_lines.specs.declared.reading.Reading.TheVariants as readings
 
-abbrev pub directives : List (Field × Directive)
-directives =
-    (codes "fs", FileSystem)
-    ∷ (codes "archivemeta", Archivemeta)
-    ∷ (codes "bufsize", Ignored)
-    ∷ (codes "directio", Ignored)
-    ∷ (codes "logfile", Ignored)
-    ∷ (codes "notify", Ignored)
-    ∷ (codes "timeout", Ignored)
-    ∷ (codes "setarchdone", Ignored)
-    ∷ (codes "examine", Ignored)
-    ∷ (codes "background_interval", Ignored)
-    ∷ (codes "background_time", Ignored)
-    ∷ (codes "interval", Ignored)
-    ∷ (codes "scanlist_squash", Ignored)
-    ∷ (codes "drives", Ignored)
-    ∷ []
-
 -- the word `off`
-abbrev pub off_field : Kind Value
-off_field field = if bytes_eq field (codes "off") then Ok (Text field) else Err BadValue
+abbrev pub off_value : Field → Read Field
+off_value field = if bytes_eq field (codes "off") then Ok field else Err BadValue
 
 -- `fs = NAME`, `archivemeta = off`, and those without effect, which take any values
-abbrev pub form_of : Directive → Form Value Reading
-form_of FileSystem = record { kinds = name_field 32 ∷ []; more = None; says = λ values. readings.FileSystem (text_at 0 values) }
-form_of Archivemeta = record { kinds = off_field ∷ []; more = None; says = λ values. readings.Nothing }
-form_of Ignored = ignored_form readings.Nothing
-
-abbrev pub value_names : FormTable Value Reading
-value_names name = option_map form_of (named directives name)
+abbrev pub value_names : FormTable Reading
+value_names =
+    (codes "fs", one_text (name_value 32) readings.FileSystem)
+    ∷ (codes "archivemeta", one_text off_value (λ off. readings.Nothing))
+    ∷ (codes "bufsize", ignored_form readings.Nothing)
+    ∷ (codes "directio", ignored_form readings.Nothing)
+    ∷ (codes "logfile", ignored_form readings.Nothing)
+    ∷ (codes "notify", ignored_form readings.Nothing)
+    ∷ (codes "timeout", ignored_form readings.Nothing)
+    ∷ (codes "setarchdone", ignored_form readings.Nothing)
+    ∷ (codes "examine", ignored_form readings.Nothing)
+    ∷ (codes "background_interval", ignored_form readings.Nothing)
+    ∷ (codes "background_time", ignored_form readings.Nothing)
+    ∷ (codes "interval", ignored_form readings.Nothing)
+    ∷ (codes "scanlist_squash", ignored_form readings.Nothing)
+    ∷ (codes "drives", ignored_form readings.Nothing)
+    ∷ []

@@ -1,21 +1,23 @@
 //! Assignment lines.
 
-ghost use Rattle.std.specs.Prelude.{◌≡◌, fold};
+ghost use Rattle.std.specs.Prelude.{◌≡◌, ◌||◌, nat_le, fold};
+ghost use Rattle.archiver_lines.specs.CopySteps.{is_too_many};
 ghost use Rattle.site_text.specs.Fields.{Gives};
-ghost use Rattle.archiver_lines.specs.Assignments.{bare, with_criterion, assign_line};
+ghost use Rattle.archiver_lines.specs.AssignmentSteps.{bare, with_criterion, assign_line};
 
 use crate::criteria::{Criterion, Release, Stage, read_criteria};
-use crate::names::{MOST_SETS, is_set_name, set_place};
+use crate::names::{is_set_name, is_too_many};
 use crate::paths::is_set_path;
 use crate::reading::{Assignment, Local, Reading};
-use site_text::{Bytes, ConfFault, Fields, LineError, List, refuse_if};
+use base::{Bytes, List};
+use site_text::{ConfFault, Fields, LineError, refuse_if};
 use std::alloc::Global;
 
 /// The limit on the number of assignment lines.
 const MOST_LINES: usize = 64;
 
 /// An assignment without criteria and attributes.
-fn bare(line: u32, set: u32, local: Local, path: Bytes) -> Assignment
+fn bare(line: u32, set: Bytes, local: Local, path: Bytes) -> Assignment
     ensures { result ≡ bare line set local path }
 {
     Assignment {
@@ -67,8 +69,15 @@ pub struct AssignedBefore<'a> {
     pub sets: &'a [Bytes],
 }
 
+/// One more line is one too many, or one of this set.
+fn is_full(before: &AssignedBefore, set: &[u8]) -> bool
+    ensures { result ≡ (nat_le 64 before.now.lines || is_too_many before.now.sets.now set.now) }
+{
+    MOST_LINES <= before.lines || is_too_many(before.sets, set)
+}
+
 /// `SET PATH` and criteria and attributes, at the line of this number.
-#[tactic(auto, using(crate::proofs::LastCriteria::criteria_told), unfolding(crate::specs::Assignments::assign_line))]
+#[tactic(auto, using(crate::proofs::LastCriteria::criteria_told), unfolding(crate::specs::AssignmentSteps::assign_line))]
 pub fn assign_line(
     alloc: Global,
     before: &AssignedBefore,
@@ -79,10 +88,7 @@ pub fn assign_line(
     ensures { Gives (λ reading. reading) result (assign_line before.now.local before.now.lines before.now.sets.now number field.now fields.now) }
 {
     refuse_if(!is_set_name(field), ConfFault::BadValue)?;
-    let set = set_place(before.sets, field);
-    if MOST_LINES <= before.lines || MOST_SETS <= set {
-        return Err(LineError::Fault(ConfFault::TooMany));
-    }
+    refuse_if(is_full(before, field), ConfFault::TooMany)?;
     refuse_if(field == b"allsets".as_slice(), ConfFault::Conflict)?;
     let mut fields = Fields::new(fields);
     let path = fields.next()?;
@@ -90,7 +96,8 @@ pub fn assign_line(
     let mut given = List::new(alloc);
     read_criteria(alloc, &mut given, fields)?;
     let path = Bytes::from_slice(alloc, path)?;
-    let mut assignment = bare(number, set as u32, before.local, path);
+    let set = Bytes::from_slice(alloc, field)?;
+    let mut assignment = bare(number, set, before.local, path);
     add_criteria(&mut assignment, given);
-    Ok(Reading::Assign(Bytes::from_slice(alloc, field)?, assignment))
+    Ok(Reading::Assign(assignment))
 }

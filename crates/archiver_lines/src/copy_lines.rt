@@ -3,13 +3,13 @@
 ghost use Rattle.std.specs.Prelude.{◌≡◌, ◌==◌, ◌&&◌};
 ghost use Rattle.std.specs.Str.{bytes_eq};
 ghost use Rattle.site_text.specs.Fields.{Gives, map_read};
-ghost use Rattle.archiver_lines.specs.CopyLines.{has_copy, no_second, copy_option, copy_ages, copy_conf, copy_line};
+ghost use Rattle.archiver_lines.specs.CopyRules.{has_copy};
+ghost use Rattle.archiver_lines.specs.CopySteps.{no_second, copy_option, copy_ages, copy_conf, copy_line};
 
 use crate::names::is_too_many;
 use crate::reading::{CopyConf, SetCopy};
-use site_text::{
-    Bytes, ConfFault, Fields, LineError, age_value, is_option, read_number, refuse_if,
-};
+use base::Bytes;
+use site_text::{ConfFault, Fields, LineError, age_value, is_option, read_number, refuse_if};
 use std::alloc::Global;
 
 /// The age in seconds at which a copy is made where its line gives none.
@@ -28,7 +28,7 @@ fn has_copy(copies: &[SetCopy], set: &[u8], copy: u64) -> bool
 }
 
 /// Both ages in seconds, and nothing behind them.
-#[tactic(auto, unfolding(crate::specs::CopyLines::copy_ages))]
+#[tactic(auto, unfolding(crate::specs::CopySteps::copy_ages))]
 fn copy_ages(fields: &[Bytes]) -> Result<(u64, Option<u64>), ConfFault>
     ensures { result ≡ copy_ages fields.now }
 {
@@ -49,7 +49,7 @@ fn copy_ages(fields: &[Bytes]) -> Result<(u64, Option<u64>), ConfFault>
 }
 
 /// Behind an option there is no second one.
-#[tactic(auto, unfolding(crate::specs::CopyLines::no_second))]
+#[tactic(auto, unfolding(crate::specs::CopySteps::no_second))]
 fn no_second(same: &[u8], other: &[u8], fields: &[Bytes]) -> Result<(), ConfFault>
     ensures { result ≡ no_second same.now other.now fields.now }
 {
@@ -67,7 +67,7 @@ fn no_second(same: &[u8], other: &[u8], fields: &[Bytes]) -> Result<(), ConfFaul
 }
 
 /// Whether `-release` and `-norelease` stand, and the fields behind.
-#[tactic(auto, unfolding(crate::specs::CopyLines::copy_option))]
+#[tactic(auto, unfolding(crate::specs::CopySteps::copy_option))]
 fn copy_option(fields: &[Bytes]) -> Result<((bool, bool), &[Bytes]), ConfFault>
     ensures { map_read (λ x. (x.0, x.1.now)) result ≡ copy_option fields.now }
 {
@@ -91,7 +91,7 @@ fn copy_option(fields: &[Bytes]) -> Result<((bool, bool), &[Bytes]), ConfFault>
 }
 
 /// What stands behind the number of a copy.
-#[tactic(auto, unfolding(crate::specs::CopyLines::copy_conf))]
+#[tactic(auto, unfolding(crate::specs::CopySteps::copy_conf))]
 fn copy_conf(copy: u8, fields: &[Bytes]) -> Result<CopyConf, ConfFault>
     ensures { result ≡ copy_conf copy fields.now }
 {
@@ -108,7 +108,7 @@ fn copy_conf(copy: u8, fields: &[Bytes]) -> Result<CopyConf, ConfFault>
 
 /// `N [-release | -norelease] [archive_age [unarchive_age]]`, behind copy lines of these sets and an assignment or a file
 /// system of the set `target`, if there was one.
-#[tactic(auto, unfolding(crate::specs::CopyLines::copy_line))]
+#[tactic(auto, unfolding(crate::specs::CopySteps::copy_line))]
 pub fn copy_line(
     alloc: Global,
     target: &Option<Bytes>,

@@ -1,12 +1,16 @@
 //! The criteria and attributes of an assignment.
 
 ghost use Rattle.std.specs.Prelude.{◌≡◌};
-ghost use Rattle.site_text.specs.Fields.{Leaves, Gives};
-ghost use Rattle.site_text.specs.Options.{options_of};
-ghost use Rattle.archiver_lines.specs.Criteria.{criteria_table, name_value};
+ghost use Rattle.site_text.specs.Fields.{Leaves, Gives, map_read};
+ghost use Rattle.site_text.specs.Values.{name_value};
+ghost use Rattle.site_text.specs.Options.{listed};
+ghost use Rattle.site_text.specs.OptionSteps.{options_of, form_found};
+ghost use Rattle.archiver_lines.specs.Criteria.{criteria, criteria_table};
+ghost use Rattle.archiver_lines.specs.CriteriaSteps.{criterion_value};
 
+use base::{Bytes, List};
 use site_text::{
-    Bytes, ConfFault, Fields, LineError, List, OptionTable, age_value, is_name, option_named,
+    ConfFault, Fields, LineError, OptionTable, TableOption, age_value, is_name, option_named,
     read_options, size_value, word_value,
 };
 use std::alloc::Global;
@@ -88,9 +92,9 @@ const STAGES: [(&[u8], Stage); 3] = [
     (b"d", Stage::Default),
 ];
 
-/// The name of a user or a group: 1 to 32 letters, digits, `_`, `-` and `.`, else `BadValue`.
+/// A name of 1 to 32 letters, digits, `_`, `-` and `.`, else `BadValue`.
 fn name_value(alloc: Global, field: &[u8]) -> Result<Bytes, LineError>
-    ensures { Gives (λ name. name) result (name_value field.now) }
+    ensures { Gives (λ name. name) result (name_value 32 field.now) }
 {
     if is_name(32, field) {
         Ok(Bytes::from_slice(alloc, field)?)
@@ -99,12 +103,21 @@ fn name_value(alloc: Global, field: &[u8]) -> Result<Bytes, LineError>
     }
 }
 
+/// The criterion or attribute that a field is.
+#[tactic(auto, using(crate::proofs::Tables::criterion_found))]
+fn criterion_named(field: &[u8]) -> Result<TableOption<Criterion, CriterionWord>, ConfFault>
+    ensures { map_read (form_found criterion_value) result ≡ listed criteria field.now }
+{
+    Ok(TableOption::WithValue(option_named(&CRITERIA, field)?))
+}
+
 /// The table of criteria and attributes.
 #[derive(Drop)]
 struct Criteria;
 
 impl OptionTable for Criteria {
     ghost use Rattle.archiver_lines.specs.Criteria.{criteria_table};
+    ghost use Rattle.archiver_lines.specs.CriteriaSteps.{criterion_value};
 
     type Word = CriterionWord;
 
@@ -112,12 +125,14 @@ impl OptionTable for Criteria {
 
     ghost options = { λ table. criteria_table };
 
-    fn named(&self, field: &[u8]) -> Result<CriterionWord, ConfFault> {
-        option_named(&CRITERIA, field)
-    }
+    ghost value_of = { λ table. criterion_value };
 
-    fn takes_value(&self, _word: CriterionWord) -> bool {
-        true
+    fn option(
+        &self,
+        _alloc: Global,
+        field: &[u8],
+    ) -> Result<TableOption<Criterion, CriterionWord>, LineError> {
+        Ok(criterion_named(field)?)
     }
 
     fn value(
@@ -136,10 +151,6 @@ impl OptionTable for Criteria {
             CriterionWord::Release => Ok(Criterion::Release(word_value(&RELEASES, field)?)),
             CriterionWord::Stage => Ok(Criterion::Stage(word_value(&STAGES, field)?)),
         }
-    }
-
-    fn alone(&self, _alloc: Global, _word: CriterionWord) -> Criterion {
-        Criterion::Release(Release::Default)
     }
 
     fn excludes(&self, _before: &[Criterion], _given: &Criterion) -> bool {

@@ -5,10 +5,12 @@ ghost use Rattle.std.specs.Str.{bytes_eq};
 ghost use Rattle.site_text.specs.Values.{is_digit};
 ghost use Rattle.site_text.specs.ValueLines.{value_line};
 ghost use Rattle.site_text.specs.Words.{named};
-ghost use Rattle.archiver_lines.specs.Kinds.{words, end_word, inside_kind, plain_kind, word_kind, outside_kind, kind_of};
+ghost use Rattle.archiver_lines.specs.KindRules.{words, end_word, plain_kind};
+ghost use Rattle.archiver_lines.specs.KindSteps.{inside_kind, word_kind, outside_kind, kind_of};
 
 use crate::reading::{Opened, Section};
-use site_text::{Bytes, find_word, is_digit, value_line};
+use base::Bytes;
+use site_text::{find_word, is_digit, value_line};
 
 /// What kind of line a line is.
 #[derive(Clone, Copy, Debug, PartialEq, Eq)]
@@ -104,7 +106,7 @@ fn outside_kind(line: &[Bytes], field: &[u8], fields: &[Bytes]) -> LineKind
 }
 
 /// The kind of a line, where this section is open or none is.
-#[tactic(auto, unfolding(crate::specs::Kinds::kind_of))]
+#[tactic(auto, unfolding(crate::specs::KindSteps::kind_of))]
 pub fn kind_of(opened: Option<Opened>, line: &[Bytes]) -> LineKind
     ensures { result ≡ kind_of opened line.now }
 {

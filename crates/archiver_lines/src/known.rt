@@ -1,18 +1,16 @@
 //! What the lines so far told.
 
-ghost use Rattle.std.specs.Prelude.{◌≡◌, ℕ, [], ◌∷◌, List as Seq, OnOk};
-ghost use Rattle.archiver_lines.specs.Told.{with_set, part_named, Knows};
+ghost use Rattle.std.specs.Prelude.{◌≡◌, ℕ, [], ◌∷◌, ◌++◌, List as Seq, OnOk};
+ghost use Rattle.archiver_lines.specs.Told.{with_set, part_named};
+ghost use Rattle.archiver_lines.specs.KnownSteps.{Knows, IsAdded};
 ghost use Rattle.archiver_lines.specs.declared.reading.Reading.{Reading};
 
 use crate::names::is_in;
 use crate::reading::{
     Assignment, Local, Opened, ParamsLine, PoolLine, Reading, Section, SetCopy, VsnsLine,
 };
-use site_text::{Bytes, List};
+use base::{Bytes, List};
 use std::alloc::{AllocError, Global};
-
-/// The limit on the number of expressions for volumes, with pools put in.
-pub const MOST_EXPRS: usize = 256;
 
 /// What the lines so far told.
 #[derive(Debug, Drop)]
@@ -32,8 +30,8 @@ pub struct Known {
     pub params: List<ParamsLine>,
     pub pools: List<PoolLine>,
     pub vsns: List<VsnsLine>,
-    /// How many more expressions for volumes there may be.
-    pub room: usize,
+    /// How many expressions the lines of vsns have together.
+    pub exprs: usize,
     /// There was a vsns section.
     pub has_vsns: bool,
 }
@@ -75,13 +73,13 @@ impl Known {
             params: List::new(alloc),
             pools: List::new(alloc),
             vsns: List::new(alloc),
-            room: MOST_EXPRS,
+            exprs: 0,
             has_vsns: false,
         }
     }
 
     fn add_file_system(&mut self, site: &[u8], name: Bytes) -> Result<(), AllocError>
-        ensures { OnOk result ((said : Seq Reading) → Knows site.now said self.old → Knows site.now (Reading.FileSystem name ∷ said) self.new) }
+        ensures { OnOk result (IsAdded site.now (Reading.FileSystem name) self.old self.new) }
     {
         self.local = part_named(site, name.as_slice());
         self.target = Some(name.copy()?);
@@ -89,17 +87,17 @@ impl Known {
         Ok(())
     }
 
-    fn add_assignment(&mut self, name: Bytes, assignment: Assignment) -> Result<(), AllocError>
-        ensures { OnOk result ((site : Seq ℕ) → (said : Seq Reading) → Knows site said self.old → Knows site (Reading.Assign name assignment ∷ said) self.new) }
+    fn add_assignment(&mut self, assignment: Assignment) -> Result<(), AllocError>
+        ensures { (site : Seq ℕ) → OnOk result (IsAdded site (Reading.Assign assignment) self.old self.new) }
     {
-        mention(&mut self.sets, &name)?;
-        self.target = Some(name);
+        mention(&mut self.sets, &assignment.set)?;
+        self.target = Some(assignment.set.copy()?);
         self.assignments.push(assignment)?;
         Ok(())
     }
 
     fn add_copy(&mut self, line: SetCopy) -> Result<(), AllocError>
-        ensures { OnOk result ((site : Seq ℕ) → (said : Seq Reading) → Knows site said self.old → Knows site (Reading.Copy line ∷ said) self.new) }
+        ensures { (site : Seq ℕ) → OnOk result (IsAdded site (Reading.Copy line) self.old self.new) }
     {
         mention(&mut self.sets, &line.set)?;
         self.copies.push(line)?;
@@ -107,7 +105,7 @@ impl Known {
     }
 
     fn begin_section(&mut self, opened: Opened)
-        ensures { (site : Seq ℕ) → (said : Seq Reading) → Knows site said self.old → Knows site (Reading.Opens opened ∷ said) self.new }
+        ensures { (site : Seq ℕ) → IsAdded site (Reading.Opens opened) self.old self.new }
     {
         self.opened = Some(opened);
         if matches!(opened.section, Section::Vsns) {
@@ -116,21 +114,21 @@ impl Known {
     }
 
     fn add_vsns(&mut self, line: VsnsLine) -> Result<(), AllocError>
-        ensures { OnOk result ((site : Seq ℕ) → (said : Seq Reading) → Knows site said self.old → Knows site (Reading.Vsns line ∷ said) self.new) }
+        ensures { (site : Seq ℕ) → OnOk result (IsAdded site (Reading.Vsns line) self.old self.new) }
     {
-        self.room = self.room.saturating_sub(line.exprs.len());
+        // The expressions of all lines are in memory, so that their number never comes to the end of its type.
+        self.exprs = self.exprs.checked_add(line.exprs.len()).ok_or(AllocError)?;
         self.vsns.push(line)?;
         Ok(())
     }
 
-    /// A line said this too.
-    pub fn add(&mut self, site: &[u8], reading: Reading) -> Result<(), AllocError>
-        ensures { OnOk result ((said : Seq Reading) → Knows site.now said self.old → Knows site.now (reading ∷ said) self.new) }
+    fn add_reading(&mut self, site: &[u8], reading: Reading) -> Result<(), AllocError>
+        ensures { OnOk result (IsAdded site.now reading self.old self.new) }
     {
         match reading {
             Reading::Nothing => Ok(()),
             Reading::FileSystem(name) => self.add_file_system(site, name),
-            Reading::Assign(name, assignment) => self.add_assignment(name, assignment),
+            Reading::Assign(assignment) => self.add_assignment(assignment),
             Reading::Copy(line) => self.add_copy(line),
             Reading::Opens(opened) => {
                 self.begin_section(opened);
@@ -150,5 +148,12 @@ impl Known {
             }
             Reading::Vsns(line) => self.add_vsns(line),
         }
+    }
+
+    /// A line said this too.
+    pub fn add(&mut self, site: &[u8], reading: Reading) -> Result<(), AllocError>
+        ensures { OnOk result ((said : Seq Reading) → Knows site.now said self.old → Knows site.now (said ++ reading ∷ []) self.new) }
+    {
+        self.add_reading(site, reading)
     }
 }

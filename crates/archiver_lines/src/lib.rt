@@ -11,7 +11,6 @@ mod lines;
 mod names;
 mod param_options;
 mod paths;
-mod plain;
 mod reading;
 mod section_lines;
 mod value_lines;
@@ -22,9 +21,6 @@ pub use known::{Known, mention};
 pub use lines::read_line;
 pub use names::same_name;
 pub use param_options::{Given, Join, Owner, ParamOption, ReservePart, Sort, SortKey, Unarchage};
-pub use plain::{
-    assignments_of, copies_of, has_vsns_of, known_of, opened_of, params_of, sets_of, vsns_of,
-};
 pub use reading::{
     Assignment, CopyConf, CopyName, Local, Opened, ParamsLine, PoolLine, Reading, Section, SetCopy,
     VsnExpr, VsnsLine,

@@ -2,8 +2,8 @@
 
 ghost use Rattle.std.specs.Prelude.{◌≡◌, ℕ, List as Seq};
 ghost use Rattle.site_text.specs.Fields.{Gives};
-ghost use Rattle.archiver_lines.specs.Lines.{copy_reading, assign_reading, params_reading, pool_reading, vsns_reading, within_reading, line_of};
-ghost use Rattle.archiver_lines.specs.Told.{Knows};
+ghost use Rattle.archiver_lines.specs.LineSteps.{copy_reading, assign_reading, params_reading, pool_reading, vsns_reading, within_reading, line_of};
+ghost use Rattle.archiver_lines.specs.KnownSteps.{Knows};
 ghost use Rattle.archiver_lines.specs.declared.reading.Reading.{Reading};
 
 use crate::assignments::{AssignedBefore, assign_line};
@@ -14,7 +14,8 @@ use crate::names::SetNames;
 use crate::reading::{Opened, Reading, Section};
 use crate::section_lines::{params_line, pool_line, vsns_line};
 use crate::value_lines::read_value_line;
-use site_text::{Bytes, ConfFault, Line, LineError};
+use base::Bytes;
+use site_text::{ConfFault, Line, LineError};
 use std::alloc::Global;
 
 fn read_copy(alloc: Global, known: &Known, fields: &[Bytes]) -> Result<Reading, LineError>
@@ -102,7 +103,7 @@ fn read_vsns(
         alloc,
         &names,
         pools,
-        known.room,
+        known.exprs,
         number,
         first.as_slice(),
         rest,
@@ -129,7 +130,7 @@ fn read_within(
 }
 
 /// What a line says, behind lines that told this.
-#[tactic(auto, unfolding(crate::specs::Lines::line_of))]
+#[tactic(auto, unfolding(crate::specs::LineSteps::line_of))]
 pub fn read_line(
     alloc: Global,
     site: &[u8],

@@ -6,12 +6,14 @@ ghost use Rattle.std.specs.List.{list_all};
 ghost use Rattle.std.specs.Str.{bytes_eq};
 ghost use Rattle.std.specs.Option.{option_map};
 ghost use Rattle.site_text.specs.Fields.{Gives};
-ghost use Rattle.archiver_lines.specs.Names.{is_set_byte, is_set_name, is_in, set_place, is_too_many, same_name, last_dot, copy_number, around_last_dot, is_known, numbered_name, copy_name};
+ghost use Rattle.archiver_lines.specs.Names.{is_set_byte, is_set_name, is_in, same_name, last_dot, around_last_dot, is_known};
+ghost use Rattle.archiver_lines.specs.CopySteps.{is_too_many};
+ghost use Rattle.archiver_lines.specs.NameSteps.{copy_number, numbered_name, copy_name};
 
 use crate::reading::CopyName;
+use base::Bytes;
 use site_text::{
-    Bytes, ConfFault, LineError, cut_at, is_digit, is_letter, is_name, read_number_within,
-    refuse_if,
+    ConfFault, LineError, cut_at, is_digit, is_letter, is_name, read_number_within, refuse_if,
 };
 use std::alloc::Global;
 
@@ -44,36 +46,20 @@ pub fn is_set_name(field: &[u8]) -> bool
 }
 
 /// The limit on the number of sets.
-pub const MOST_SETS: usize = 64;
-
-fn place_in(sets: &[Bytes], name: &[u8]) -> Option<usize>
-    ensures { result ≡ position (λ s. bytes_eq s name.now) sets.now }
-{
-    sets.iter().position(|s| s.as_slice() == name)
-}
-
-/// The place of a set, which is behind the others where it is a new one.
-pub fn set_place(sets: &[Bytes], name: &[u8]) -> usize
-    ensures { result ≡ set_place sets.now name.now }
-{
-    match place_in(sets, name) {
-        Some(place) => place,
-        None => sets.len(),
-    }
-}
-
-/// One more set of this name is one too many.
-pub fn is_too_many(sets: &[Bytes], name: &[u8]) -> bool
-    ensures { result ≡ is_too_many sets.now name.now }
-{
-    MOST_SETS <= set_place(sets, name)
-}
+const MOST_SETS: usize = 64;
 
 /// The name is among these.
 pub fn is_in(names: &[Bytes], name: &[u8]) -> bool
     ensures { result ≡ is_in names.now name.now }
 {
     names.iter().any(|n| n.as_slice() == name)
+}
+
+/// One more set of this name is one too many.
+pub fn is_too_many(sets: &[Bytes], name: &[u8]) -> bool
+    ensures { result ≡ is_too_many sets.now name.now }
+{
+    !is_in(sets, name) && MOST_SETS <= sets.len()
 }
 
 /// Both are the name of the same copies.
@@ -141,7 +127,7 @@ fn is_known(names: &SetNames, name: &[u8]) -> bool
 }
 
 /// The name of a copy, `SET.N` or `allsets.N`.
-#[tactic(auto, unfolding(crate::specs::Names::numbered_name))]
+#[tactic(auto, unfolding(crate::specs::NameSteps::numbered_name))]
 fn numbered_name(
     alloc: Global,
     names: &SetNames,
@@ -161,7 +147,7 @@ fn numbered_name(
 
 /// Which copies a field names: `allsets`, `allsets.N` or `SET.N`. `BadValue` where it is of none of these forms, `UnknownSet`
 /// where there is no such set.
-#[tactic(auto, unfolding(crate::specs::Names::copy_name))]
+#[tactic(auto, unfolding(crate::specs::NameSteps::copy_name))]
 pub fn copy_name(alloc: Global, names: &SetNames, field: &[u8]) -> Result<CopyName, LineError>
     ensures { Gives (λ name. name) result (copy_name names.now.site.now names.now.file_systems.now names.now.sets.now field.now) }
 {

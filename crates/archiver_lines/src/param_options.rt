@@ -3,15 +3,18 @@
 ghost use Rattle.std.specs.Prelude.{◌≡◌, ◌&&◌};
 ghost use Rattle.std.specs.List.{list_any};
 ghost use Rattle.std.specs.Option.{option_copied};
-ghost use Rattle.site_text.specs.Fields.{Leaves, Gives};
-ghost use Rattle.site_text.specs.Options.{options_of};
-ghost use Rattle.archiver_lines.specs.ParamOptions.{params_table, option_field, bufsize_in, listed_option, takes_value, sort_value, option_value, option_alone, owner_of, exclude, exclude_any};
+ghost use Rattle.site_text.specs.Fields.{Leaves, Gives, map_read};
+ghost use Rattle.site_text.specs.Words.{word_value};
+ghost use Rattle.site_text.specs.OptionSteps.{options_of, form_found};
+ghost use Rattle.archiver_lines.specs.ParamOptions.{params_table, listed_option, param_option, bufsize_in, sort_by, sort_words, owner_of, exclude, exclude_any};
+ghost use Rattle.archiver_lines.specs.ParamOptionSteps.{listed_word, option_value, form_of};
 ghost use Rattle.archiver_lines.specs.Names.{same_name};
 
 use crate::names::same_name;
 use crate::reading::{CopyName, ParamsLine};
+use base::List;
 use site_text::{
-    ConfFault, Fields, LineError, List, OptionTable, age_value, number_value, option_named,
+    ConfFault, Fields, LineError, OptionTable, TableOption, age_value, number_value, option_named,
     read_options, size_value, word_value,
 };
 use std::alloc::Global;
@@ -62,11 +65,10 @@ pub enum Unarchage {
     Modify,
 }
 
-/// An option of params.
+/// An option of params that takes a value.
 #[derive(Clone, Copy, Debug, PartialEq, Eq)]
-pub enum ParamOption {
+pub enum ValuedOption {
     Archmax,
-    Fillvsns,
     Join,
     Sort,
     Rsort,
@@ -80,9 +82,6 @@ pub enum ParamOption {
     RecycleMingain,
     RecycleVsncount,
     RecycleDataquantity,
-    RecycleIgnore,
-    /// One without effect that takes no value.
-    Bare,
     /// One without effect that takes a number.
     AnyNumber,
     /// One without effect that takes a size.
@@ -112,6 +111,14 @@ pub enum Given {
     Nothing,
 }
 
+/// An option of params.
+#[derive(Clone, Copy, Debug, PartialEq, Eq)]
+pub enum ParamOption {
+    /// It stands alone, and gives this.
+    Alone(Given),
+    Valued(ValuedOption),
+}
+
 /// The greatest number that a field can say.
 const MOST_NUMBER: u32 = 999_999_999;
 
@@ -119,29 +126,47 @@ const MOST_NUMBER: u32 = 999_999_999;
 const MOST_SIZE: u64 = (1 << 50) - 1;
 
 const OPTIONS: [(&[u8], ParamOption); 23] = [
-    (b"-archmax", ParamOption::Archmax),
-    (b"-fillvsns", ParamOption::Fillvsns),
-    (b"-join", ParamOption::Join),
-    (b"-sort", ParamOption::Sort),
-    (b"-rsort", ParamOption::Rsort),
-    (b"-reserve", ParamOption::Reserve),
-    (b"-ovflmin", ParamOption::Ovflmin),
-    (b"-startage", ParamOption::Startage),
-    (b"-startcount", ParamOption::Startcount),
-    (b"-startsize", ParamOption::Startsize),
-    (b"-unarchage", ParamOption::Unarchage),
-    (b"-recycle_hwm", ParamOption::RecycleHwm),
-    (b"-recycle_mingain", ParamOption::RecycleMingain),
-    (b"-recycle_vsncount", ParamOption::RecycleVsncount),
-    (b"-recycle_dataquantity", ParamOption::RecycleDataquantity),
-    (b"-recycle_ignore", ParamOption::RecycleIgnore),
-    (b"-lock", ParamOption::Bare),
-    (b"-tapenonstop", ParamOption::Bare),
-    (b"-bufsize", ParamOption::AnyNumber),
-    (b"-recycle_mailaddr", ParamOption::AnyWord),
-    (b"-drives", ParamOption::AnyNumber),
-    (b"-drivemin", ParamOption::AnySize),
-    (b"-drivemax", ParamOption::AnySize),
+    (b"-archmax", ParamOption::Valued(ValuedOption::Archmax)),
+    (b"-fillvsns", ParamOption::Alone(Given::Fillvsns)),
+    (b"-join", ParamOption::Valued(ValuedOption::Join)),
+    (b"-sort", ParamOption::Valued(ValuedOption::Sort)),
+    (b"-rsort", ParamOption::Valued(ValuedOption::Rsort)),
+    (b"-reserve", ParamOption::Valued(ValuedOption::Reserve)),
+    (b"-ovflmin", ParamOption::Valued(ValuedOption::Ovflmin)),
+    (b"-startage", ParamOption::Valued(ValuedOption::Startage)),
+    (
+        b"-startcount",
+        ParamOption::Valued(ValuedOption::Startcount),
+    ),
+    (b"-startsize", ParamOption::Valued(ValuedOption::Startsize)),
+    (b"-unarchage", ParamOption::Valued(ValuedOption::Unarchage)),
+    (
+        b"-recycle_hwm",
+        ParamOption::Valued(ValuedOption::RecycleHwm),
+    ),
+    (
+        b"-recycle_mingain",
+        ParamOption::Valued(ValuedOption::RecycleMingain),
+    ),
+    (
+        b"-recycle_vsncount",
+        ParamOption::Valued(ValuedOption::RecycleVsncount),
+    ),
+    (
+        b"-recycle_dataquantity",
+        ParamOption::Valued(ValuedOption::RecycleDataquantity),
+    ),
+    (b"-recycle_ignore", ParamOption::Alone(Given::RecycleIgnore)),
+    (b"-lock", ParamOption::Alone(Given::Nothing)),
+    (b"-tapenonstop", ParamOption::Alone(Given::Nothing)),
+    (b"-bufsize", ParamOption::Valued(ValuedOption::AnyNumber)),
+    (
+        b"-recycle_mailaddr",
+        ParamOption::Valued(ValuedOption::AnyWord),
+    ),
+    (b"-drives", ParamOption::Valued(ValuedOption::AnyNumber)),
+    (b"-drivemin", ParamOption::Valued(ValuedOption::AnySize)),
+    (b"-drivemax", ParamOption::Valued(ValuedOption::AnySize)),
 ];
 
 const JOINS: [(&[u8], Join); 2] = [(b"path", Join::Path), (b"none", Join::None)];
@@ -174,89 +199,83 @@ fn bufsize_in(field: &[u8]) -> Option<&[u8]>
     field.strip_prefix(b"-bufsize=")
 }
 
+fn found(option: ParamOption) -> TableOption<Given, ValuedOption>
+    ensures { form_found option_value result ≡ form_of option }
+{
+    match option {
+        ParamOption::Alone(given) => TableOption::Alone(given),
+        ParamOption::Valued(option) => TableOption::WithValue(option),
+    }
+}
+
 /// The option that a field is in the table.
-#[tactic(auto, unfolding(crate::specs::ParamOptions::listed_option))]
-fn listed_option(field: &[u8]) -> Result<ParamOption, ConfFault>
-    ensures { result ≡ listed_option field.now }
+#[tactic(auto, unfolding(crate::specs::ParamOptionSteps::listed_word))]
+fn listed_word(field: &[u8]) -> Result<ParamOption, ConfFault>
+    ensures { result ≡ listed_word field.now }
 {
     option_named(&OPTIONS, field)
 }
 
-/// The option that a field is, with `-bufsize=N` as one that takes no value.
-fn option_field(field: &[u8]) -> Result<ParamOption, ConfFault>
-    ensures { result ≡ option_field field.now }
+/// What the option is for the reader of options.
+#[tactic(auto, using(crate::proofs::Tables::option_found))]
+fn listed_option(field: &[u8]) -> Result<TableOption<Given, ValuedOption>, ConfFault>
+    ensures { map_read (form_found option_value) result ≡ listed_option field.now }
+{
+    Ok(found(listed_word(field)?))
+}
+
+/// The option that a field is: `-bufsize=N`, which stands alone, or one of the table.
+fn param_option(field: &[u8]) -> Result<TableOption<Given, ValuedOption>, ConfFault>
+    ensures { map_read (form_found option_value) result ≡ param_option field.now }
 {
     match bufsize_in(field) {
         Some(number) => {
             number_value(0, MOST_NUMBER, number)?;
-            Ok(ParamOption::Bare)
+            Ok(TableOption::Alone(Given::Nothing))
         }
         None => listed_option(field),
     }
 }
 
-fn takes_value(option: ParamOption) -> bool
-    ensures { result ≡ takes_value option }
-{
-    !matches!(
-        option,
-        ParamOption::Fillvsns | ParamOption::RecycleIgnore | ParamOption::Bare
-    )
-}
-
 fn sort_value(reverse: bool, field: &[u8]) -> Result<Given, ConfFault>
-    ensures { result ≡ sort_value reverse field.now }
+    ensures { result ≡ map_read (λ key. sort_by key reverse) (word_value sort_words field.now) }
 {
     let key = word_value(&SORT_KEYS, field)?;
     Ok(Given::Sort(Sort { key, reverse }))
 }
 
 /// What an option gives with this value.
-fn option_value(option: ParamOption, field: &[u8]) -> Result<Given, ConfFault>
+fn option_value(option: ValuedOption, field: &[u8]) -> Result<Given, ConfFault>
     ensures { result ≡ option_value option field.now }
 {
     match option {
-        ParamOption::Archmax => Ok(Given::Archmax(size_value(0, MOST_SIZE, field)?)),
-        ParamOption::Join => Ok(Given::Join(word_value(&JOINS, field)?)),
-        ParamOption::Sort => sort_value(false, field),
-        ParamOption::Rsort => sort_value(true, field),
-        ParamOption::Reserve => Ok(Given::Reserve(word_value(&RESERVE_PARTS, field)?)),
-        ParamOption::Ovflmin => Ok(Given::Ovflmin(size_value(0, MOST_SIZE, field)?)),
-        ParamOption::Startage => Ok(Given::Startage(age_value(field)?)),
-        ParamOption::Startcount => Ok(Given::Startcount(number_value(1, MOST_NUMBER, field)?)),
-        ParamOption::Startsize => Ok(Given::Startsize(size_value(0, MOST_SIZE, field)?)),
-        ParamOption::Unarchage => Ok(Given::Unarchage(word_value(&UNARCHAGES, field)?)),
-        ParamOption::RecycleHwm => Ok(Given::RecycleHwm(number_value(0, 100, field)?)),
-        ParamOption::RecycleMingain => Ok(Given::RecycleMingain(number_value(0, 100, field)?)),
-        ParamOption::RecycleVsncount => {
+        ValuedOption::Archmax => Ok(Given::Archmax(size_value(0, MOST_SIZE, field)?)),
+        ValuedOption::Join => Ok(Given::Join(word_value(&JOINS, field)?)),
+        ValuedOption::Sort => sort_value(false, field),
+        ValuedOption::Rsort => sort_value(true, field),
+        ValuedOption::Reserve => Ok(Given::Reserve(word_value(&RESERVE_PARTS, field)?)),
+        ValuedOption::Ovflmin => Ok(Given::Ovflmin(size_value(0, MOST_SIZE, field)?)),
+        ValuedOption::Startage => Ok(Given::Startage(age_value(field)?)),
+        ValuedOption::Startcount => Ok(Given::Startcount(number_value(1, MOST_NUMBER, field)?)),
+        ValuedOption::Startsize => Ok(Given::Startsize(size_value(0, MOST_SIZE, field)?)),
+        ValuedOption::Unarchage => Ok(Given::Unarchage(word_value(&UNARCHAGES, field)?)),
+        ValuedOption::RecycleHwm => Ok(Given::RecycleHwm(number_value(0, 100, field)?)),
+        ValuedOption::RecycleMingain => Ok(Given::RecycleMingain(number_value(0, 100, field)?)),
+        ValuedOption::RecycleVsncount => {
             Ok(Given::RecycleVsncount(number_value(0, MOST_NUMBER, field)?))
         }
-        ParamOption::RecycleDataquantity => {
+        ValuedOption::RecycleDataquantity => {
             Ok(Given::RecycleDataquantity(size_value(0, MOST_SIZE, field)?))
         }
-        ParamOption::AnyNumber => {
+        ValuedOption::AnyNumber => {
             number_value(0, MOST_NUMBER, field)?;
             Ok(Given::Nothing)
         }
-        ParamOption::AnySize => {
+        ValuedOption::AnySize => {
             size_value(0, MOST_SIZE, field)?;
             Ok(Given::Nothing)
         }
-        ParamOption::Fillvsns
-        | ParamOption::RecycleIgnore
-        | ParamOption::Bare
-        | ParamOption::AnyWord => Ok(Given::Nothing),
-    }
-}
-
-/// What an option gives alone.
-fn option_alone(option: ParamOption) -> Given
-    ensures { result ≡ option_alone option }
-{
-    match option {
-        ParamOption::Fillvsns => Given::Fillvsns,
-        ParamOption::RecycleIgnore => Given::RecycleIgnore,
-        _ => Given::Nothing,
+        ValuedOption::AnyWord => Ok(Given::Nothing),
     }
 }
 
@@ -307,27 +326,26 @@ struct ParamOptions<'a> {
 
 impl OptionTable for ParamOptions<'_> {
     ghost use Rattle.archiver_lines.specs.ParamOptions.{params_table};
+    ghost use Rattle.archiver_lines.specs.ParamOptionSteps.{option_value};
 
-    type Word = ParamOption;
+    type Word = ValuedOption;
 
     type Given = Given;
 
     ghost options = { λ table. params_table table.lines.now table.name.now };
 
-    fn named(&self, field: &[u8]) -> Result<ParamOption, ConfFault> {
-        option_field(field)
+    ghost value_of = { λ table. option_value };
+
+    fn option(
+        &self,
+        _alloc: Global,
+        field: &[u8],
+    ) -> Result<TableOption<Given, ValuedOption>, LineError> {
+        Ok(param_option(field)?)
     }
 
-    fn takes_value(&self, word: ParamOption) -> bool {
-        takes_value(word)
-    }
-
-    fn value(&self, _alloc: Global, word: ParamOption, field: &[u8]) -> Result<Given, LineError> {
+    fn value(&self, _alloc: Global, word: ValuedOption, field: &[u8]) -> Result<Given, LineError> {
         Ok(option_value(word, field)?)
-    }
-
-    fn alone(&self, _alloc: Global, word: ParamOption) -> Given {
-        option_alone(word)
     }
 
     fn excludes(&self, before: &[Given], given: &Given) -> bool {

@@ -2,7 +2,7 @@
 
 use crate::criteria::{Release, Stage};
 use crate::param_options::Given;
-use site_text::{Bytes, List};
+use base::{Bytes, List};
 
 /// For which file systems a line stands.
 #[derive(Clone, Copy, Debug, PartialEq, Eq)]
@@ -20,8 +20,8 @@ pub enum Local {
 pub struct Assignment {
     /// The number of its line, from 1.
     pub line: u32,
-    /// The place of its set among all sets, from 0.
-    pub set: u32,
+    /// The name of its set.
+    pub set: Bytes,
     pub local: Local,
     /// `.`, or a path without its first `/`.
     pub path: Bytes,
@@ -126,8 +126,7 @@ pub enum Reading {
     Nothing,
     /// The part of this file system begins, or goes on.
     FileSystem(Bytes),
-    /// An assignment to the set of this name.
-    Assign(Bytes, Assignment),
+    Assign(Assignment),
     Copy(SetCopy),
     Opens(Opened),
     Closes,

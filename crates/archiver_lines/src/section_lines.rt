@@ -3,17 +3,22 @@
 ghost use Rattle.std.specs.Prelude.{◌≡◌, ℕ, List as Seq, ◌++◌, ◌∷◌, ◌&&◌, [], ◌≤◌, ◌<◌, ◌+◌, nat_lt, length, OnOk, IfOk, IfErr, MatchOption, map, codes, true, false, Err};
 ghost use Rattle.std.specs.Str.{bytes_eq};
 ghost use Rattle.site_text.specs.Fields.{Gives, Fails};
-ghost use Rattle.site_text.specs.Forms.{read_form};
-ghost use Rattle.archiver_lines.specs.SectionLines.{expr_of, is_of_pool, exprs_at, pool_exprs, is_pool, items_of, items_count, exprs_count, pool_form, params_line, vsns_line};
+ghost use Rattle.site_text.specs.FormSteps.{read_form};
+ghost use Rattle.archiver_lines.specs.SectionRules.{expr_of, is_of_pool, exprs_at, pool_exprs, is_pool, items_count, exprs_count, pool_form};
+ghost use Rattle.archiver_lines.specs.SectionSteps.{items_of, params_line, vsns_line};
 
 use crate::names::{SetNames, copy_name};
 use crate::param_options::read_param_options;
 use crate::reading::{ParamsLine, PoolLine, VsnExpr, VsnsLine};
-use site_text::{Bytes, ConfFault, Fields, LineError, List, is_media, refuse_if};
+use base::{Bytes, List};
+use site_text::{ConfFault, Fields, LineError, is_media, refuse_if};
 use std::alloc::{AllocError, Global};
 
+/// The limit on the number of expressions for volumes, with pools put in.
+const MOST_EXPRS: usize = 256;
+
 /// `NAME` and options, behind these lines of params.
-#[tactic(auto, unfolding(crate::specs::SectionLines::params_line))]
+#[tactic(auto, unfolding(crate::specs::SectionSteps::params_line))]
 pub fn params_line(
     alloc: Global,
     names: &SetNames,
@@ -219,8 +224,8 @@ fn room_behind_item(
 
 /// The fields behind the name of a vsns line say more expressions than there is room for. It counts no further than the room, and
 /// copies nothing: each item may name a large pool.
-#[tactic(auto, unfolding(crate::specs::SectionLines::exprs_count, crate::specs::SectionLines::items_count))]
-fn are_too_many(pools: &[PoolLine], room: usize, fields: &[Bytes]) -> bool
+#[tactic(auto, unfolding(crate::specs::SectionRules::exprs_count, crate::specs::SectionRules::items_count))]
+fn are_over(pools: &[PoolLine], room: usize, fields: &[Bytes]) -> bool
     ensures { result ≡ nat_lt room (exprs_count pools.now fields.now) }
 {
     let mut fields = Fields::new(fields);
@@ -237,21 +242,31 @@ fn are_too_many(pools: &[PoolLine], room: usize, fields: &[Bytes]) -> bool
     false
 }
 
-/// `NAME MEDIA` and items, of at most so many expressions, behind these lines of vsnpools.
-#[tactic(auto, unfolding(crate::specs::SectionLines::vsns_line, site_text::specs::Fields::next_field))]
+/// The fields behind the name of a vsns line say more expressions than may stand behind so many of the lines before it.
+fn are_too_many(pools: &[PoolLine], before: usize, fields: &[Bytes]) -> bool
+    ensures { result ≡ nat_lt 256 (before + exprs_count pools.now fields.now) }
+{
+    match MOST_EXPRS.checked_sub(before) {
+        Some(room) => are_over(pools, room, fields),
+        None => true,
+    }
+}
+
+/// `NAME MEDIA` and items, behind these lines of vsnpools and lines of vsns with so many expressions.
+#[tactic(auto, unfolding(crate::specs::SectionSteps::vsns_line, site_text::specs::Fields::next_field))]
 pub fn vsns_line(
     alloc: Global,
     names: &SetNames,
     pools: &[PoolLine],
-    room: usize,
+    before: usize,
     number: u32,
     field: &[u8],
     fields: &[Bytes],
 ) -> Result<VsnsLine, LineError>
-    ensures { Gives (λ line. line) result (vsns_line names.now.site.now names.now.file_systems.now names.now.sets.now pools.now room number field.now fields.now) }
+    ensures { Gives (λ line. line) result (vsns_line names.now.site.now names.now.file_systems.now names.now.sets.now pools.now before number field.now fields.now) }
 {
     let name = copy_name(alloc, names, field)?;
-    refuse_if(are_too_many(pools, room, fields), ConfFault::TooMany)?;
+    refuse_if(are_too_many(pools, before, fields), ConfFault::TooMany)?;
     let [media, rest @ ..] = fields else {
         return Err(LineError::Fault(ConfFault::MissingField));
     };

@@ -1,17 +1,19 @@
 //! Value lines.
 
-ghost use Rattle.std.specs.Prelude.{◌≡◌};
+ghost use Rattle.std.specs.Prelude.{◌≡◌, option_map, None};
 ghost use Rattle.site_text.specs.Fields.{Gives};
 ghost use Rattle.site_text.specs.Words.{named};
-ghost use Rattle.site_text.specs.Forms.{read_form};
-ghost use Rattle.site_text.specs.Directives.{read_directive};
-ghost use Rattle.archiver_lines.specs.ValueForms.{directives, form_of, value_names};
-ghost use Rattle.site_text.specs.Plain.{no_words};
+ghost use Rattle.site_text.specs.FormSteps.{read_form};
+ghost use Rattle.site_text.specs.DirectiveSteps.{read_by, read_directive};
+ghost use Rattle.archiver_lines.specs.ValueForms.{value_names};
+ghost use Rattle.archiver_lines.specs.ValueSteps.{directives, form_of, value_reading};
+ghost use Rattle.site_text.specs.Directives.{no_words};
 ghost use Rattle.archiver_lines.specs.declared.value_lines.Directive.TheVariants as directive;
 
 use crate::reading::Reading;
+use base::Bytes;
 use site_text::{
-    Bytes, ConfFault, Fields, LineError, find_word, is_name, read_ignored, refuse_if, value_line,
+    ConfFault, Fields, LineError, find_word, is_name, read_ignored, refuse_if, value_line,
 };
 use std::alloc::Global;
 
@@ -73,10 +75,10 @@ fn archivemeta_line(values: Fields) -> Result<Reading, ConfFault>
     Ok(Reading::Nothing)
 }
 
-/// What a value line says.
-#[tactic(auto, unfolding(site_text::specs::Directives::form_at))]
-pub fn read_value_line(alloc: Global, fields: &[Bytes]) -> Result<Reading, LineError>
-    ensures { Gives (λ reading. reading) result (read_directive value_names no_words fields.now) }
+/// What a value line says, by the code's words for directives.
+#[tactic(auto, unfolding(site_text::specs::DirectiveSteps::form_by))]
+fn read_by_word(alloc: Global, fields: &[Bytes]) -> Result<Reading, LineError>
+    ensures { Gives (λ reading. reading) result (read_by (λ name. option_map form_of (named directives name)) (λ word. None) fields.now) }
 {
     let [_, ..] = fields else {
         return Err(LineError::Fault(ConfFault::MissingField));
@@ -93,4 +95,12 @@ pub fn read_value_line(alloc: Global, fields: &[Bytes]) -> Result<Reading, LineE
         Some(Directive::Ignored) => Ok(read_ignored(values, Reading::Nothing)?),
         None => Err(LineError::Fault(ConfFault::UnknownDirective)),
     }
+}
+
+/// What a value line says.
+#[tactic(auto, using(crate::proofs::Tables::directive_found), unfolding(crate::specs::ValueSteps::value_reading))]
+pub fn read_value_line(alloc: Global, fields: &[Bytes]) -> Result<Reading, LineError>
+    ensures { Gives (λ reading. reading) result (value_reading fields.now) }
+{
+    read_by_word(alloc, fields)
 }

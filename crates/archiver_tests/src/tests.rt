@@ -1,7 +1,6 @@
-//! What no clause says: that the calls succeed, and texts made by hand from the format. Each text is read by the reader and by the
-//! plain slow one.
+//! What no clause says: that the calls succeed, and texts made by hand from the format.
 
-use archiver_cmd::{ArchiverConf, plain_archiver, read_archiver};
+use archiver_cmd::{ArchiverConf, read_archiver};
 use site_text::{ConfError, ConfFault, ConfRefusal};
 use std::alloc::Global;
 use std::test::Fail;
@@ -30,12 +29,4 @@ fn refusal(alloc: Global, text: &[u8]) -> Result<Refusal, Fail> {
         return Err("a long text".into());
     }
     Ok(refusal_of(read_archiver(alloc, text, b"samfs1"))?)
-}
-
-/// The same by the plain reader.
-fn plain_refusal(alloc: Global, text: &[u8]) -> Result<Refusal, Fail> {
-    if text.len() > 65536 {
-        return Err("a long text".into());
-    }
-    Ok(refusal_of(plain_archiver(alloc, text, b"samfs1"))?)
 }

@@ -1,6 +1,7 @@
 pub mod Content
 pub mod Crash
 pub mod Failing
+pub mod Faults
 pub mod Inside
 pub mod Memory
 pub mod Past

@@ -29,6 +29,7 @@ pub record IsAnew (m : MemoryBank) (listed : List FailAt) : Type 0 where
   pub calls : m.calls ≡ []
   pub fail : m.fail ≡ listed
   pub faults : m.faults ≡ 0
+  pub journal_faults : m.journal_faults ≡ 0
 
 -- a call as it stands in the record
 abbrev pub made : BankCall → ℕ → ℕ → List ℕ → Bool → Call

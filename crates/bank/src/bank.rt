@@ -1,8 +1,9 @@
 //! A store of numbered areas of bytes.
 
 ghost use Rattle.std.specs.Prelude.{◌≡◌, ◌+◌, ◌^◌, ◌<◌, ◌≤◌, ℕ, Bool, IsTrue, length, OnOk, OnErr};
-ghost use Rattle.site_text.specs.Causes.{HasCause};
+ghost use Rattle.base.specs.Causes.{HasCause};
 ghost use Rattle.bank.specs.Content.{Stands};
+ghost use Rattle.bank.specs.Faults.{HasJournalCause};
 ghost use Rattle.bank.specs.View.{View, IsSound, Unchanged, Touches, OnlyContent};
 
 /// A call failed, and the store counted it.
@@ -27,12 +28,16 @@ pub trait Bank: Drop {
     /// The area of the last call that failed.
     ghost last_fault: { Self → ℕ };
 
+    /// How many calls on area 0 have failed.
+    ghost journal_faults: { Self → ℕ };
+
     /// Reads the bytes from a place on. It changes nothing, failed or not.
     fn read(&mut self, area: u32, place: u64, into: &mut [u8]) -> Result<(), BankFailed>
         requires { place + length into.old < 2 ^ 63 }
         ensures bytes { IsTrue tells → OnOk result (Stands ((view self.old).content area) place into.new) }
         ensures unchanged { IsTrue tells → Unchanged (view self.old) (view self.new) }
         ensures cause { HasCause (faults self.old) (faults self.new) result }
+        ensures journal_cause { HasJournalCause area (journal_faults self.old) (journal_faults self.new) result }
         ensures area { OnErr result (last_fault self.new ≡ area) }
         ensures last { OnOk result (last_fault self.new ≡ last_fault self.old) };
 
@@ -43,6 +48,7 @@ pub trait Bank: Drop {
         ensures torn { IsTrue tells → Touches area place (length bytes.now) (view self.old) (view self.new) }
         ensures later { IsTrue tells → OnOk result ((view self.old).moment < (view self.new).moment) }
         ensures cause { HasCause (faults self.old) (faults self.new) result }
+        ensures journal_cause { HasJournalCause area (journal_faults self.old) (journal_faults self.new) result }
         ensures area { OnErr result (last_fault self.new ≡ area) }
         ensures last { OnOk result (last_fault self.new ≡ last_fault self.old) };
 
@@ -52,6 +58,7 @@ pub trait Bank: Drop {
         ensures unchanged { IsTrue tells → Unchanged (view self.old) (view self.new) }
         ensures later { IsTrue tells → OnOk result ((view self.old).moment < (view self.new).moment) }
         ensures cause { HasCause (faults self.old) (faults self.new) result }
+        ensures journal_cause { HasJournalCause area (journal_faults self.old) (journal_faults self.new) result }
         ensures area { OnErr result (last_fault self.new ≡ area) }
         ensures last { OnOk result (last_fault self.new ≡ last_fault self.old) };
 

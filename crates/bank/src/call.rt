@@ -3,7 +3,7 @@
 ghost use Rattle.std.specs.Prelude.{◌≡◌, ℕ, ◌+◌, ◌-◌, ◌^◌, ◌<◌, ◌≤◌, length, replicate, slice_index, if◌then◌else◌, IfOk};
 ghost use Rattle.bank.specs.Failing.{same_kind};
 
-use site_text::Bytes;
+use base::Bytes;
 use std::alloc::{AllocError, Global};
 
 /// A kind of call.

@@ -1,15 +1,17 @@
 //! A store over a folder of the file system.
 
 ghost use Rattle.std.specs.Prelude.{◌≡◌, ◌+◌, ◌^◌, ◌<◌, ◌≤◌, ℕ, false, length, IsErr, IfOk, OnErr, OnOk};
-ghost use Rattle.site_text.specs.Causes.{HasCause};
+ghost use Rattle.base.specs.Causes.{HasCause};
+ghost use Rattle.bank.specs.Faults.{HasJournalCause};
 ghost use Rattle.bank.specs.View.{untold};
 ghost use Rattle.bank.specs.declared.file.FileBankRefusal.TheVariants.{NoMemory};
 
-use crate::area_files::AreaFiles;
+use crate::area_files::{AreaFiles, FILE_MODE};
 use crate::bank::{Bank, BankFailed};
 use std::alloc::{AllocError, Global};
 use std::fs::{File, Files, OpenOptions, TryLockError};
 use std::io;
+use std::os::unix::fs::OpenOptionsExt;
 
 /// Why a folder was not opened as a store.
 #[derive(Clone, Copy, Debug, PartialEq, Eq)]
@@ -33,25 +35,29 @@ impl From<AllocError> for FileBankRefusal {
 /// file gives back what was written to it, and that a sync brings it to the medium, is the system's word.
 ///
 /// An area is a file named by its number in decimal, and zeros stand past the end of a file. The file `lock` carries
-/// the lock.
+/// the lock. Files are made for the owner alone. An area's file that was opened once and is not found later is a fault, and a
+/// write that would reach beyond the process's limit on the size of files is one too.
 #[derive(Drop)]
 pub struct FileBank<R> {
     areas: AreaFiles<R>,
     lock: File,
     faults: u64,
+    journal_faults: u64,
     last_fault: u32,
 }
 
 impl<R: Files<File = File> + Drop> FileBank<R> {
     /// Opens a folder that is there.
     pub fn open(rt: R, alloc: Global, folder: &str) -> Result<Self, FileBankRefusal>
-        ensures { IfOk result (λ b. b.faults ≡ 0) }
+        ensures faults { IfOk result (λ b. b.faults ≡ 0) }
+        ensures journal_faults { IfOk result (λ b. b.journal_faults ≡ 0) }
     {
         let path = format!(in alloc; "{folder}/lock")?;
         let opened = OpenOptions::new()
             .read(true)
             .write(true)
             .create(true)
+            .mode(FILE_MODE)
             .open(&rt, path.as_str());
         let Ok(lock) = opened else {
             return Err(FileBankRefusal::Failed);
@@ -69,6 +75,7 @@ impl<R: Files<File = File> + Drop> FileBank<R> {
             areas,
             lock,
             faults: 0,
+            journal_faults: 0,
             last_fault: 0,
         })
     }
@@ -76,6 +83,7 @@ impl<R: Files<File = File> + Drop> FileBank<R> {
     // Counts a fault.
     fn counted(&mut self, area: u32, answer: io::Result<()>) -> Result<(), BankFailed>
         ensures cause { HasCause self.old.faults self.new.faults result }
+        ensures journal_cause { HasJournalCause area self.old.journal_faults self.new.journal_faults result }
         ensures area { OnErr result (self.new.last_fault ≡ area) }
         ensures last { OnOk result (self.new.last_fault ≡ self.old.last_fault) }
     {
@@ -83,6 +91,9 @@ impl<R: Files<File = File> + Drop> FileBank<R> {
             Ok(()) => Ok(()),
             Err(_) => {
                 self.faults = self.faults.saturating_add(1);
+                if area == 0 {
+                    self.journal_faults = self.journal_faults.saturating_add(1);
+                }
                 self.last_fault = area;
                 Err(BankFailed {})
             }
@@ -98,6 +109,8 @@ impl<R: Files<File = File> + Drop> Bank for FileBank<R> {
     ghost faults = { λ b. b.faults };
 
     ghost last_fault = { λ b. b.last_fault };
+
+    ghost journal_faults = { λ b. b.journal_faults };
 
     ghost sound = { λ b told. record { reads_as_image = λ a. tt; counts_now = λ t c le i. tt; only_now = λ c l a. tt } };
 

@@ -1,15 +1,16 @@
 //! A store in memory, which records its calls and fails by a list.
 
 ghost use Rattle.std.specs.Prelude.{◌≡◌, ◌⊎◌, ◌+◌, ◌^◌, ◌<◌, ◌≤◌, ℕ, true, false, [], ◌∷◌, ◌++◌, reverse, take, IsTrue, length, IfOk, IsOkAnd, OnOk, OnErr, IsErr};
-ghost use Rattle.site_text.specs.Causes.{HasCause};
+ghost use Rattle.base.specs.Causes.{HasCause};
 ghost use Rattle.bank.specs.Content.{Stands, Same};
+ghost use Rattle.bank.specs.Faults.{HasJournalCause};
 ghost use Rattle.bank.specs.Past.{content_of};
 ghost use Rattle.bank.specs.Failing.{same_kind, count_of, is_listed};
 
 use crate::bank::{Bank, BankFailed};
 use crate::call::{BankCall, Call, FailAt, same_kind};
 use crate::crash::add_left;
-use site_text::{Bytes, List};
+use base::{Bytes, List};
 use std::alloc::{AllocError, Global};
 
 /// A store in memory. It keeps a record of its calls, and fails those of a list; one that fails changes nothing.
@@ -22,6 +23,7 @@ pub struct MemoryBank {
     calls: List<Call>,
     fail: List<FailAt>,
     faults: u64,
+    journal_faults: u64,
     last_fault: u32,
 }
 
@@ -62,7 +64,8 @@ fn is_listed(fail: &[FailAt], calls: &[Call], area: u32, kind: BankCall) -> bool
 
 impl MemoryBank {
     ghost use Rattle.bank.specs.declared.call.Call.{Call};
-    ghost use Rattle.bank.specs.Past.{IsImageAt, LeftSince};
+    ghost use Rattle.bank.specs.Past.{IsImageAt, LeftSince, view_of};
+    ghost use Rattle.bank.specs.View.{OnlyContent};
     ghost use Rattle.bank.specs.Crash.{picked};
     ghost use Rattle.bank.specs.Memory.{began, past_of, past_at, IsAnew, Records};
 
@@ -77,6 +80,7 @@ impl MemoryBank {
             calls: List::new(alloc),
             fail,
             faults: 0,
+            journal_faults: 0,
             last_fault: 0,
         })
     }
@@ -96,6 +100,9 @@ impl MemoryBank {
         ensures left { IfOk result (λ m. (t : ℕ) → t ≤ length (past_at self.now moment) → LeftSince (began self.now) (past_of self.now) t (began m)) }
         ensures picked { IfOk result (λ m. (a k : ℕ) → began m a k ≡ picked pick (began self.now) (past_at self.now moment) a k) }
         ensures anew { IfOk result (λ m. IsAnew m []) }
+        // It reads as that image, and a crash leaves what it reads.
+        ensures content { IfOk result (λ m. (view_of (began m) (past_of m)).content ≡ began m) }
+        ensures only { IfOk result (λ m. (area : ℕ) → OnlyContent area (view_of (began m) (past_of m))) }
     {
         let alloc = self.alloc;
         let count = self.calls.len().min(moment as usize);
@@ -110,17 +117,22 @@ impl MemoryBank {
             calls: List::new(alloc),
             fail: List::new(alloc),
             faults: 0,
+            journal_faults: 0,
             last_fault: 0,
         })
     }
 
     // Counts a fault.
     fn refuse(&mut self, area: u32) -> Result<(), BankFailed>
-        ensures kept { self.new ≡ record self.old { faults = self.new.faults; last_fault = area } }
+        ensures kept { self.new ≡ record self.old { faults = self.new.faults; journal_faults = self.new.journal_faults; last_fault = area } }
         ensures cause { HasCause self.old.faults self.new.faults result }
+        ensures journal_cause { HasJournalCause area self.old.journal_faults self.new.journal_faults result }
         ensures err { IsErr result }
     {
         self.faults = self.faults.saturating_add(1);
+        if area == 0 {
+            self.journal_faults = self.journal_faults.saturating_add(1);
+        }
         self.last_fault = area;
         Err(BankFailed {})
     }
@@ -135,6 +147,7 @@ impl MemoryBank {
     ) -> Result<(), BankFailed>
         ensures recorded { Records kind area place bytes.now self.old self.new result }
         ensures cause { HasCause self.old.faults self.new.faults result }
+        ensures journal_cause { HasJournalCause area self.old.journal_faults self.new.journal_faults result }
         ensures area { OnErr result (self.new.last_fault ≡ area) }
         ensures last { OnOk result (self.new.last_fault ≡ self.old.last_fault) }
     {
@@ -170,6 +183,8 @@ impl Bank for MemoryBank {
 
     ghost last_fault = { λ m. m.last_fault };
 
+    ghost journal_faults = { λ m. m.journal_faults };
+
     ghost sound = { λ m told. sound_of (began m) (past_of m) };
 
     fn read(&mut self, area: u32, place: u64, into: &mut [u8]) -> Result<(), BankFailed>
@@ -178,6 +193,7 @@ impl Bank for MemoryBank {
         ensures unchanged { Unchanged (view_of (began self.old) (past_of self.old)) (view_of (began self.new) (past_of self.new)) }
         ensures recorded { Records BankCall.Read area place [] self.old self.new result }
         ensures cause { HasCause self.old.faults self.new.faults result }
+        ensures journal_cause { HasJournalCause area self.old.journal_faults self.new.journal_faults result }
         ensures area { OnErr result (self.new.last_fault ≡ area) }
         ensures last { OnOk result (self.new.last_fault ≡ self.old.last_fault) }
     {
@@ -199,6 +215,7 @@ impl Bank for MemoryBank {
         ensures later { OnOk result (length (past_of self.old) < length (past_of self.new)) }
         ensures recorded { Records BankCall.Write area place bytes.now self.old self.new result }
         ensures cause { HasCause self.old.faults self.new.faults result }
+        ensures journal_cause { HasJournalCause area self.old.journal_faults self.new.journal_faults result }
         ensures area { OnErr result (self.new.last_fault ≡ area) }
         ensures last { OnOk result (self.new.last_fault ≡ self.old.last_fault) }
     {
@@ -211,6 +228,7 @@ impl Bank for MemoryBank {
         ensures later { OnOk result (length (past_of self.old) < length (past_of self.new)) }
         ensures recorded { Records BankCall.Sync area 0 [] self.old self.new result }
         ensures cause { HasCause self.old.faults self.new.faults result }
+        ensures journal_cause { HasJournalCause area self.old.journal_faults self.new.journal_faults result }
         ensures area { OnErr result (self.new.last_fault ≡ area) }
         ensures last { OnOk result (self.new.last_fault ≡ self.old.last_fault) }
     {

@@ -4,8 +4,8 @@ ghost use Rattle.std.specs.Prelude.{◌≡◌, ℕ, ◌+◌, ◌<◌, ◌^◌, l
 ghost use Rattle.cache_space.specs.Blocks.{free_blocks, as_runs, lowest_runs};
 
 use crate::runs::has_block;
+use base::List;
 use records::Run;
-use site_text::List;
 use std::alloc::{AllocError, Global};
 
 /// Of so many blocks, those that none of the runs has, in order.

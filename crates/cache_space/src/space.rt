@@ -6,8 +6,8 @@ ghost use Rattle.cache_space.specs.Space.{taken_by, AreApart, AreFree};
 
 use crate::refusal::SpaceRefusal;
 use crate::{flags, groups};
+use base::List;
 use records::Run;
-use site_text::List;
 use std::alloc::{AllocError, Global};
 use std::marker::Model;
 

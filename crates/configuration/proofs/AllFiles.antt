@@ -1,7 +1,8 @@
 -- What the files say one by one, put together.
-use Rattle.std.proofs.Common.{◌≡◌, ◌<◌, ◌/◌, arith, List, None, Result, Ok, Err, IfOk, IfErr, refl, sym, subst}
-use Rattle.site_text.specs.Files.{FileSays}
-use Rattle.site_text.specs.Plain.{no_section}
+use Rattle.std.proofs.Common.{◌≡◌, ◌<◌, ◌/◌, arith, ℕ, List, None, Result, Ok, Err, IfOk, IfErr, refl, sym, subst}
+use Rattle.site_text.specs.declared.fault.ConfError.{ConfError}
+use Rattle.site_text.specs.declared.fault.ConfError.TheVariants as faults
+use Rattle.site_text.specs.FileRules.{FileSays, FileAnswers, no_section}
 use Rattle.daemon_cmds.specs.declared.site_conf.SiteConf.{SiteConf}
 use Rattle.daemon_cmds.specs.declared.site_conf.SiteReading.{SiteReading}
 use Rattle.daemon_cmds.specs.declared.stager_conf.StagerConf.{StagerConf}
@@ -10,23 +11,27 @@ use Rattle.daemon_cmds.specs.declared.releaser_conf.ReleaserConf.{ReleaserConf}
 use Rattle.daemon_cmds.specs.declared.releaser_conf.ReleaserReading.{ReleaserReading}
 use Rattle.daemon_cmds.specs.declared.recycler_conf.RecyclerConf.{RecyclerConf}
 use Rattle.daemon_cmds.specs.declared.recycler_conf.RecyclerReading.{RecyclerReading}
-use Rattle.daemon_cmds.specs.SiteTold.{SiteLineSays, TellsSite}
-use Rattle.daemon_cmds.specs.StagerTold.{StagerLineSays, TellsStager}
-use Rattle.daemon_cmds.specs.ReleaserTold.{ReleaserLineSays, TellsReleaser}
-use Rattle.daemon_cmds.specs.RecyclerTold.{RecyclerLineSays, RecyclerLineWrong, TellsRecycler}
+use Rattle.daemon_cmds.specs.SiteRules.{SiteLineSays}
+use Rattle.daemon_cmds.specs.SiteTold.{TellsSite}
+use Rattle.daemon_cmds.specs.StagerRules.{StagerLineSays}
+use Rattle.daemon_cmds.specs.StagerTold.{TellsStager}
+use Rattle.daemon_cmds.specs.ReleaserRules.{ReleaserLineSays, ReleaserLineWrong}
+use Rattle.daemon_cmds.specs.ReleaserTold.{TellsReleaser}
+use Rattle.daemon_cmds.specs.RecyclerRules.{RecyclerLineSays, RecyclerLineWrong}
+use Rattle.daemon_cmds.specs.RecyclerTold.{TellsRecycler}
 use Rattle.archiver_lines.specs.declared.reading.Reading.{Reading}
-use Rattle.archiver_lines.specs.Says.{LineSays}
+use Rattle.archiver_lines.specs.LineRules.{LineSays}
 use Rattle.archiver_lines.specs.Told.{open_line}
 use Rattle.archiver_cmd.specs.declared.conf.ArchiverConf.{ArchiverConf}
 use Rattle.archiver_cmd.specs.Conf.{Tells}
 use Rattle.records.specs.declared.file.SiteTexts.{SiteTexts}
 use Rattle.records.specs.declared.reply.CommandFile.{CommandFile}
-use Rattle.records.specs.declared.reply.CommandFile.TheVariants.{Recycler}
+use Rattle.records.specs.declared.reply.CommandFile.TheVariants.{Releaser, Recycler}
 use Rattle.configuration.specs.declared.read.Configuration.{Configuration}
 use Rattle.configuration.specs.declared.read.ConfigurationError.{ConfigurationError}
 use Rattle.configuration.specs.declared.read.ConfigurationError.TheVariants.{Refused, NoMemory}
-use Rattle.configuration.specs.Readings.{site_told, refusal_of, blocks_of}
-use Rattle.configuration.specs.Says.{Says, SaysSite, IsFirstWrong, ConfigurationAnswers, TellsRefusal, FileTold}
+use Rattle.configuration.specs.ConfigurationRules.{site_told, Says, SaysSite, IsFirstWrong, ConfigurationAnswers, FileTold}
+use Rattle.configuration.specs.ConfigurationSteps.{in_file, refusal_of, blocks_of, TellsRefusal}
 use Rattle.configuration.proofs.Laws.{says-read, says-blocks, wrong-refused, blocks-range}
 
 -- a site that lines tell is the one that they tell
@@ -84,6 +89,23 @@ recycler_wrong texts site says archiver (archived, archiver_says, archiver_tells
     subst (λ (file : CommandFile). IsFirstWrong texts (record { file = file; line = refusal.line; fault = refusal.fault })) (sym is)
     (site, site_says texts site says, (archived, archiver_says), (staged, stager_says), (released, releaser_says), wrong)
 recycler_wrong texts site says archiver archiver_tells stager stager_tells releaser releaser_tells NoMemory told = tt
+
+-- the last but one is wrong
+pub releaser_wrong : (texts : SiteTexts) (site : SiteConf) → SiteSays texts site
+    → (archiver : ArchiverConf) → ArchiverTells texts site archiver → (stager : StagerConf) → StagerTells texts site stager
+    → (error : ConfigurationError) → FileTold {C = ReleaserConf} Releaser ReleaserLineSays ReleaserLineWrong no_section (TellsReleaser site) texts.releaser (Err error) → ConfigurationAnswers texts (Err error)
+releaser_wrong texts site says archiver (archived, archiver_says, archiver_tells) stager (staged, stager_says, stager_tells) (Refused refusal) (is, wrong) =
+    subst (λ (file : CommandFile). IsFirstWrong texts (record { file = file; line = refusal.line; fault = refusal.fault })) (sym is)
+    (site, site_says texts site says, (archived, archiver_says), (staged, stager_says), wrong)
+releaser_wrong texts site says archiver archiver_tells stager stager_tells NoMemory told = tt
+
+-- ---- what was read of the last but one
+
+pub releaser_told : (site : SiteConf) (text : List ℕ) (read : Result ReleaserConf ConfError) → FileAnswers ReleaserLineSays ReleaserLineWrong no_section (TellsReleaser site) text read
+    → FileTold Releaser ReleaserLineSays ReleaserLineWrong no_section (TellsReleaser site) text (in_file Releaser read)
+releaser_told site text (Ok conf) says = says
+releaser_told site text (Err (faults.Refused refusal)) wrong = (refl, wrong)
+releaser_told site text (Err faults.NoMemory) answers = tt
 
 -- ---- what follows of the answer
 

@@ -3,25 +3,27 @@ use Rattle.std.proofs.Common.{◌≡◌, ℕ, List, Result, Ok, Err, Option}
 use Rattle.site_text.specs.declared.fault.ConfFault.{ConfFault}
 use Rattle.site_text.specs.declared.fault.ConfRefusal.{ConfRefusal}
 use Rattle.site_text.specs.declared.line.Line.{Line}
-use Rattle.site_text.specs.Files.{LineReader, FileSays, FileWrong, file_reading}
-use Rattle.site_text.specs.Plain.{no_section, no_words}
+use Rattle.site_text.specs.FileSteps.{LineReader, file_reading}
+use Rattle.site_text.specs.FileRules.{FileSays, FileWrong, no_section}
+use Rattle.site_text.specs.Directives.{no_words}
 use Rattle.site_text.proofs.FormLaws.{directive_said, directive_wrong, directive_read, directive_refused}
 use Rattle.site_text.proofs.FileMeaning.{Agrees, said_is_read, read_is_said, wrong_is_refused, refused_is_wrong}
 use Rattle.daemon_cmds.specs.declared.site_conf.SiteConf.{SiteConf}
-use Rattle.daemon_cmds.specs.SiteLines.{site_bars, site_names}
-use Rattle.daemon_cmds.specs.SiteTold.{site_line, site_so_far, SiteLineSays, SiteLineWrong}
-use Rattle.daemon_cmds.specs.StagerLines.{stager_names}
-use Rattle.daemon_cmds.specs.StagerTold.{stager_line, StagerLineSays, StagerLineWrong}
-use Rattle.daemon_cmds.specs.ReleaserLines.{releaser_bars, releaser_names, releaser_bare}
-use Rattle.daemon_cmds.specs.ReleaserTold.{releaser_line, ReleaserLineSays, ReleaserLineWrong, part_of, given_of}
-use Rattle.daemon_cmds.specs.RecyclerTold.{recycler_line, RecyclerLineSays, RecyclerLineWrong}
-use Rattle.daemon_cmds.specs.BarredLaws.{barred_said, barred_wrong, barred_read, barred_refused}
+use Rattle.daemon_cmds.specs.SiteRules.{site_bars, site_forms, SiteLineSays, SiteLineWrong}
+use Rattle.daemon_cmds.specs.SiteSteps.{site_line}
+use Rattle.daemon_cmds.specs.StagerSteps.{stager_line}
+use Rattle.daemon_cmds.specs.StagerRules.{stager_forms, StagerLineSays, StagerLineWrong}
+use Rattle.daemon_cmds.specs.ReleaserRules.{releaser_bars, releaser_forms, word_forms, ReleaserLineSays, ReleaserLineWrong}
+use Rattle.daemon_cmds.specs.ReleaserSteps.{releaser_line}
+use Rattle.daemon_cmds.specs.RecyclerSteps.{recycler_line}
+use Rattle.daemon_cmds.specs.RecyclerRules.{RecyclerLineSays, RecyclerLineWrong}
+use Rattle.daemon_cmds.specs.BarLaws.{barred_said, barred_wrong, barred_read, barred_refused}
 use Rattle.daemon_cmds.specs.RecyclerLaws.{recycler_said, recycler_wrong, recycler_read, recycler_refused}
-use Rattle.archiver_lines.specs.Lines.{line_of}
-use Rattle.archiver_lines.specs.Says.{LineSays, LineWrong}
+use Rattle.archiver_lines.specs.LineSteps.{line_of}
+use Rattle.archiver_lines.specs.LineRules.{LineSays, LineWrong}
 use Rattle.archiver_lines.specs.Told.{open_line}
 use Rattle.archiver_lines.proofs.LineLaws.{line_said, line_read, line_wrong, line_refused}
-use Rattle.configuration.specs.Readings.{site_reading, archiver_reading, stager_reading, releaser_reading, recycler_reading}
+use Rattle.configuration.specs.ConfigurationSteps.{site_reading, archiver_reading, stager_reading, releaser_reading, recycler_reading}
 
 -- this is what the steps read of a text of which the relations say it
 pub record Means {R : Type 0} (LineSays : List R → Line → R → Type 0) (LineWrong : List R → Line → ConfFault → Type 0) (open_section : List R → Option ℕ) (text : List ℕ) (reading : Result (List R) ConfRefusal) : Type 0 where
@@ -45,12 +47,12 @@ means line LineSays LineWrong open_section agrees text = record {
 site_agrees : Agrees site_line SiteLineSays SiteLineWrong
 site_agrees = record {
   says = λ before line r. (
-    barred_said (site_bars (site_so_far before)) (site_names (site_so_far before)) no_words line.fields r,
-    barred_read (site_bars (site_so_far before)) (site_names (site_so_far before)) no_words line.fields r,
+    barred_said (site_bars before) (site_forms before) no_words line.fields r,
+    barred_read (site_bars before) (site_forms before) no_words line.fields r,
   );
   wrong = λ before line fault. (
-    barred_wrong (site_bars (site_so_far before)) (site_names (site_so_far before)) no_words line.fields fault,
-    barred_refused (site_bars (site_so_far before)) (site_names (site_so_far before)) no_words line.fields fault,
+    barred_wrong (site_bars before) (site_forms before) no_words line.fields fault,
+    barred_refused (site_bars before) (site_forms before) no_words line.fields fault,
   );
 }
 
@@ -74,8 +76,8 @@ archiver_means site text = means (line_of site.name) (LineSays site.name) (LineW
 
 stager_agrees : (site : SiteConf) → Agrees (stager_line site) (StagerLineSays site) (StagerLineWrong site)
 stager_agrees site = record {
-  says = λ before line r. (directive_said (stager_names site.libraries) no_words line.fields r, directive_read (stager_names site.libraries) no_words line.fields r);
-  wrong = λ before line fault. (directive_wrong (stager_names site.libraries) no_words line.fields fault, directive_refused (stager_names site.libraries) no_words line.fields fault);
+  says = λ before line r. (directive_said (stager_forms site.libraries) no_words line.fields r, directive_read (stager_forms site.libraries) no_words line.fields r);
+  wrong = λ before line fault. (directive_wrong (stager_forms site.libraries) no_words line.fields fault, directive_refused (stager_forms site.libraries) no_words line.fields fault);
 }
 
 pub stager_means : (site : SiteConf) (text : List ℕ) → Means (StagerLineSays site) (StagerLineWrong site) no_section text (stager_reading site text)
@@ -87,12 +89,12 @@ stager_means site text = means (stager_line site) (StagerLineSays site) (StagerL
 releaser_agrees : Agrees releaser_line ReleaserLineSays ReleaserLineWrong
 releaser_agrees = record {
   says = λ before line r. (
-    barred_said (releaser_bars (part_of before) (given_of before)) releaser_names releaser_bare line.fields r,
-    barred_read (releaser_bars (part_of before) (given_of before)) releaser_names releaser_bare line.fields r,
+    barred_said (releaser_bars before) releaser_forms word_forms line.fields r,
+    barred_read (releaser_bars before) releaser_forms word_forms line.fields r,
   );
   wrong = λ before line fault. (
-    barred_wrong (releaser_bars (part_of before) (given_of before)) releaser_names releaser_bare line.fields fault,
-    barred_refused (releaser_bars (part_of before) (given_of before)) releaser_names releaser_bare line.fields fault,
+    barred_wrong (releaser_bars before) releaser_forms word_forms line.fields fault,
+    barred_refused (releaser_bars before) releaser_forms word_forms line.fields fault,
   );
 }
 

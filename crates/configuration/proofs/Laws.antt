@@ -6,30 +6,30 @@ use Rattle.std.proofs.lemmas.Bool.{leb-true, le-leb, false≢true}
 use Rattle.std.specs.Str.{is_utf8, chars}
 use Rattle.site_text.specs.declared.fault.ConfFault.{ConfFault}
 use Rattle.site_text.specs.declared.fault.ConfRefusal.{ConfRefusal}
-use Rattle.site_text.specs.Files.{FileSays, file_reading}
+use Rattle.site_text.specs.FileRules.{FileSays, no_section}
+use Rattle.site_text.specs.FileSteps.{file_reading}
 use Rattle.site_text.specs.Lines.{ends_continued, joined, with_fields, lines_of}
-use Rattle.site_text.specs.Plain.{no_section}
 use Rattle.daemon_cmds.specs.declared.site_conf.SiteConf.{SiteConf}
 use Rattle.daemon_cmds.specs.declared.site_conf.SiteReading.{SiteReading}
 use Rattle.daemon_cmds.specs.declared.stager_conf.StagerReading.{StagerReading}
 use Rattle.daemon_cmds.specs.declared.releaser_conf.ReleaserReading.{ReleaserReading}
 use Rattle.daemon_cmds.specs.declared.recycler_conf.RecyclerReading.{RecyclerReading}
-use Rattle.daemon_cmds.specs.SiteTold.{SiteLineSays}
-use Rattle.daemon_cmds.specs.StagerTold.{StagerLineSays}
-use Rattle.daemon_cmds.specs.ReleaserTold.{ReleaserLineSays}
-use Rattle.daemon_cmds.specs.RecyclerTold.{RecyclerLineSays}
+use Rattle.daemon_cmds.specs.SiteRules.{SiteLineSays}
+use Rattle.daemon_cmds.specs.StagerRules.{StagerLineSays}
+use Rattle.daemon_cmds.specs.ReleaserRules.{ReleaserLineSays}
+use Rattle.daemon_cmds.specs.RecyclerRules.{RecyclerLineSays}
 use Rattle.daemon_cmds.proofs.CacheRange.{IsCacheSize, cache_in_range}
 use Rattle.archiver_lines.specs.declared.reading.Reading.{Reading}
-use Rattle.archiver_lines.specs.Says.{LineSays}
+use Rattle.archiver_lines.specs.LineRules.{LineSays}
 use Rattle.archiver_lines.specs.Told.{open_line}
 use Rattle.records.specs.declared.file.SiteTexts.{SiteTexts}
 use Rattle.records.specs.declared.reply.CommandFile.{CommandFile}
 use Rattle.records.specs.declared.reply.CommandFile.TheVariants.{Site, Archiver, Stager, Releaser, Recycler}
 use Rattle.configuration.specs.declared.read.FileRefusal.{FileRefusal}
 use Rattle.configuration.specs.declared.read.Configuration.{Configuration}
-use Rattle.configuration.specs.Readings.{IsWithin, AreWithin, is_within, are_within, site_reading, site_told, archiver_reading, stager_reading, releaser_reading, recycler_reading, first_of, refusal_in, refusal_within, refusal_by, refusal_of, cache_by, blocks_of}
+use Rattle.configuration.specs.ConfigurationRules.{IsWithin, AreWithin, site_told, Readings, SayReadings, Says, IsFirstWrong}
+use Rattle.configuration.specs.ConfigurationSteps.{is_within, are_within, site_reading, archiver_reading, stager_reading, releaser_reading, recycler_reading, first_of, refusal_in, refusal_within, refusal_by, refusal_of, cache_by, blocks_of}
 use Rattle.records.specs.Texts.{no_texts}
-use Rattle.configuration.specs.Says.{Readings, SayReadings, Says, IsFirstWrong}
 use Rattle.configuration.proofs.EachFile.{site_means, archiver_means, stager_means, releaser_means, recycler_means}
 
 -- ---- the texts are within their length

@@ -1,3 +1,4 @@
 mod EachFile
 mod AllFiles
 pub mod Laws
+mod OneConfiguration

@@ -1,5 +1,5 @@
 -- The texts of a folder that are a site's command files.
-use Rattle.std.specs.Prelude.{◌≡◌, ℕ, List, [], take, codes, Option, Some, None}
+use Rattle.std.specs.Prelude.{◌≡◌, ℕ, ◌+◌, ◌^◌, List, [], take, codes, Option, Some, None}
 use Rattle.std.specs.Option.{option_map_or}
 use Rattle.outside.specs.declared.folder.NamedText.{NamedText}
 use Rattle.outside.specs.Folders.{text_under}
@@ -8,7 +8,7 @@ use Rattle.records.specs.declared.file.SiteTexts.{SiteTexts}
 -- The text under a name, up to its 65,537th byte: a longer one is too large for a command file, whatever follows. Where there is
 -- none it is empty.
 abbrev pub text_read : List NamedText → List ℕ → List ℕ
-text_read folder name = option_map_or (take 65537) (text_under folder name) []
+text_read folder name = option_map_or (take (2 ^ 16 + 1)) (text_under folder name) []
 
 abbrev pub texts_in : List NamedText → SiteTexts
 texts_in folder = record {

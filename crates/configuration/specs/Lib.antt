@@ -1,3 +1,3 @@
-pub mod Readings
-pub mod Says
+pub mod ConfigurationRules
+pub mod ConfigurationSteps
 pub mod FolderTexts

@@ -1,12 +1,12 @@
 //! Reading the five command files of a folder.
 
 ghost use Rattle.std.specs.Prelude.{◌≡◌, ◌≢◌, ◌≤◌, Err, IfOk};
-ghost use Rattle.site_text.specs.Causes.{Rose};
+ghost use Rattle.base.specs.Causes.{Rose};
 ghost use Rattle.configuration.specs.FolderTexts.{AreRead, IsRead};
 
+use base::Bytes;
 use outside::{Folder, FolderFault};
 use records::SiteTexts;
-use site_text::Bytes;
 use std::alloc::Global;
 
 /// The text of a name, up to its 65,537th byte. Where there is none it is empty.

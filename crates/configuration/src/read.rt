@@ -1,26 +1,31 @@
 //! Reading the five command files.
 
 ghost use Rattle.std.specs.Prelude.{◌≡◌, ◌/◌, IfOk, IfErr, IsTrue, None};
-ghost use Rattle.site_text.specs.Plain.{no_section};
-ghost use Rattle.daemon_cmds.specs.SiteTold.{SiteLineSays, SiteLineWrong, TellsSite};
-ghost use Rattle.daemon_cmds.specs.StagerTold.{StagerLineSays, StagerLineWrong, TellsStager};
-ghost use Rattle.daemon_cmds.specs.ReleaserTold.{ReleaserLineSays, ReleaserLineWrong, TellsReleaser};
-ghost use Rattle.daemon_cmds.specs.RecyclerTold.{RecyclerLineSays, RecyclerLineWrong, TellsRecycler};
-ghost use Rattle.archiver_lines.specs.Says.{LineSays, LineWrong};
+ghost use Rattle.site_text.specs.FileRules.{no_section};
+ghost use Rattle.daemon_cmds.specs.SiteRules.{SiteLineSays, SiteLineWrong};
+ghost use Rattle.daemon_cmds.specs.SiteTold.{TellsSite};
+ghost use Rattle.daemon_cmds.specs.StagerRules.{StagerLineSays, StagerLineWrong};
+ghost use Rattle.daemon_cmds.specs.StagerTold.{TellsStager};
+ghost use Rattle.daemon_cmds.specs.ReleaserRules.{ReleaserLineSays, ReleaserLineWrong};
+ghost use Rattle.daemon_cmds.specs.ReleaserTold.{TellsReleaser};
+ghost use Rattle.daemon_cmds.specs.RecyclerRules.{RecyclerLineSays, RecyclerLineWrong};
+ghost use Rattle.daemon_cmds.specs.RecyclerTold.{TellsRecycler};
+ghost use Rattle.archiver_lines.specs.LineRules.{LineSays, LineWrong};
 ghost use Rattle.archiver_lines.specs.Told.{open_line};
 ghost use Rattle.archiver_cmd.specs.Conf.{Tells};
 ghost use Rattle.records.specs.declared.file.SiteTexts.{SiteTexts};
 ghost use Rattle.records.specs.declared.reply.CommandFile.TheVariants.{Site, Archiver, Stager, Releaser, Recycler};
-ghost use Rattle.configuration.specs.Readings.{AreWithin, is_within, are_within, refusal_of, blocks_of};
-ghost use Rattle.configuration.specs.Says.{Says, ConfigurationAnswers, TellsRefusal, FileTold, in_file};
+ghost use Rattle.configuration.specs.ConfigurationRules.{AreWithin, Says, ConfigurationAnswers, FileTold};
+ghost use Rattle.configuration.specs.ConfigurationSteps.{is_within, are_within, refusal_of, blocks_of, TellsRefusal, in_file};
 
 use archiver_cmd::{ArchiverConf, read_archiver};
+use base::Bytes;
 use daemon_cmds::{
     RecyclerConf, ReleaserConf, SiteConf, StagerConf, read_recycler, read_releaser, read_site,
     read_stager,
 };
 use records::{CommandFile, SiteTexts};
-use site_text::{Bytes, ConfError, ConfFault};
+use site_text::{ConfError, ConfFault};
 use std::alloc::Global;
 
 /// The most bytes that a command file may have.

@@ -1,11 +1,12 @@
 //! What no clause says: that the calls succeed, and texts made by hand from the forms of the five files.
 
+use base::{Bytes, List};
 use configuration::{
     Configuration, ConfigurationError, FileRefusal, are_within, read_configuration, read_texts,
 };
 use outside::{FolderFault, MemoryFolder, NamedText};
 use records::{CommandFile, SiteTexts};
-use site_text::{Bytes, ConfFault, List};
+use site_text::ConfFault;
 use std::alloc::{AllocError, Global};
 use std::test::Fail;
 

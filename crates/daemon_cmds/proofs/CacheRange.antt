@@ -1,112 +1,91 @@
 -- The cache that a site.conf gives has 4 KiB to 64 GiB.
-use Rattle.std.proofs.Common.{◌≡◌, ℕ, ◌≤◌, Bool, true, false, List, [], ◌∷◌, length, Option, Some, None, Ok, Err, refl, subst, arith}
-use Rattle.std.specs.Prelude.{nat_le, option_map, if◌then◌else◌, ◌==◌, ◌&&◌, ◌%◌, unwrap_or}
+use Rattle.std.proofs.Common.{◌≡◌, ℕ, ◌≤◌, ◌^◌, Bool, true, false, List, [], ◌∷◌, ◌++◌, Option, Some, None, Ok, Err, refl, arith}
+use Rattle.std.specs.Prelude.{nat_le, if◌then◌else◌, ◌==◌, ◌&&◌, ◌%◌, unwrap_or}
+use Rattle.std.specs.List.{last_or, filter_map}
 use Rattle.std.proofs.lemmas.Bool.{leb-true}
-use Rattle.site_text.specs.declared.fault.ConfFault.TheVariants.{OutOfRange, MissingField, UnknownDirective}
+use Rattle.site_text.specs.declared.fault.ConfFault.TheVariants.{OutOfRange}
 use Rattle.site_text.specs.declared.line.Line.{Line}
-use Rattle.site_text.specs.Fields.{Field, Read, ◌>>=◌, next_field, wanted}
-use Rattle.site_text.specs.ValueLines.{value_line}
+use Rattle.site_text.specs.Fields.{Field, Read, ◌>>=◌}
 use Rattle.site_text.specs.Values.{bad_value, multiple_value}
 use Rattle.site_text.specs.Sizes.{size_of}
-use Rattle.site_text.specs.Forms.{Form, values_of, more_values, read_form}
-use Rattle.site_text.specs.Kinds.{Value, Number}
-use Rattle.site_text.specs.Words.{named}
-use Rattle.site_text.specs.Directives.{form_at, read_directive}
-use Rattle.site_text.specs.Files.{LinesSay}
-use Rattle.site_text.proofs.FormLaws.{directive_read}
-use Rattle.site_text.specs.Plain.{no_words}
-use Rattle.daemon_cmds.specs.declared.site_conf.SiteSoFar.{SiteSoFar}
+use Rattle.site_text.specs.FileRules.{LinesSayBehind, LinesSay}
+use Rattle.site_text.proofs.FormGives.{AllSay, directive_gives}
 use Rattle.daemon_cmds.specs.declared.site_conf.SiteReading.{SiteReading}
 use Rattle.daemon_cmds.specs.declared.site_conf.SiteReading.TheVariants as readings
-use Rattle.daemon_cmds.specs.declared.site_lines.SiteDirective.{SiteDirective}
-use Rattle.daemon_cmds.specs.declared.site_lines.SiteDirective.TheVariants as directives
-use Rattle.daemon_cmds.specs.SiteLines.{site_directives, site_form, site_names}
-use Rattle.daemon_cmds.specs.SiteTold.{SiteLineSays, cache_of, site_so_far}
+use Rattle.daemon_cmds.specs.SiteTold.{cache_in, cache_of, default_cache}
+use Rattle.daemon_cmds.specs.SiteRules.{site_forms, SiteLineSays}
 
 abbrev pub IsCacheSize : ℕ → Type 0
-IsCacheSize n = (4096 ≤ n) × (n ≤ 68719476736)
+IsCacheSize n = (4096 ≤ n) × (n ≤ 2 ^ 36)
 
--- if a cache is read, its size is in range
-abbrev Fits : Read SiteReading → Type 0
-Fits (Ok (readings.Cache n)) = IsCacheSize n
-Fits (Ok r) = Unit {0}
-Fits (Err fault) = Unit {0}
-
+-- a cache that a field says
 abbrev size_or_not : ℕ → Bool → Read ℕ
 size_or_not n fits = if fits then Ok n else Err OutOfRange
 
-abbrev cache_of_sizes : List Value → Read SiteReading
-cache_of_sizes values = Ok ((site_form (record { name = None; cache = None; high = None; low = None; libraries = []; volumes = [] }) directives.Cache).says values)
+size_tested : (n m : ℕ) (low high whole : Bool) → nat_le 4096 n ≡ low → nat_le n (2 ^ 36) ≡ high → size_or_not n (low && high && whole) ≡ Ok m → IsCacheSize m
+size_tested n m true true true is_low is_high is = let same : n ≡ m = cc in rw (← same) (leb-true 4096 n is_low, leb-true n (2 ^ 36) is_high)
+size_tested n m true true false is_low is_high is = absurd cc
+size_tested n m true false whole is_low is_high is = absurd cc
+size_tested n m false high whole is_low is_high is = absurd cc
 
-abbrev cache_from : Read ℕ → Read (List Value) → Read SiteReading
-cache_from size rest = ((size >>= λ n. Ok (Number n)) >>= λ value. rest >>= λ values. Ok (value ∷ values)) >>= cache_of_sizes
+size_read : (m : ℕ) (size : Read ℕ) → (size >>= λ n. size_or_not n (nat_le 4096 n && nat_le n (2 ^ 36) && (n % 4096 == 0))) ≡ Ok m → IsCacheSize m
+size_read m (Ok n) is = size_tested n m (nat_le 4096 n) (nat_le n (2 ^ 36)) (n % 4096 == 0) refl refl is
+size_read m (Err fault) is = absurd cc
 
-size_behind : (n : ℕ) (rest : Read (List Value)) → IsCacheSize n → Fits (cache_from (Ok n) rest)
-size_behind n (Ok values) fits = fits
-size_behind n (Err fault) fits = tt
+cache_read : (field : Field) (n : ℕ) → multiple_value 4096 4096 (2 ^ 36) field ≡ Ok n → IsCacheSize n
+unfolding multiple_value
+cache_read field n is = size_read n (bad_value (size_of field)) is
 
-size_tested : (n : ℕ) (low high whole : Bool) (rest : Read (List Value)) → nat_le 4096 n ≡ low → nat_le n 68719476736 ≡ high → Fits (cache_from (size_or_not n (low && high && whole)) rest)
-size_tested n true true true rest is_low is_high = size_behind n rest (leb-true 4096 n is_low, leb-true n 68719476736 is_high)
-size_tested n true true false rest is_low is_high = tt
-size_tested n true false whole rest is_low is_high = tt
-size_tested n false high whole rest is_low is_high = tt
+-- if a line gives a cache, its size is in range
+abbrev Fits : SiteReading → Type 0
+Fits (readings.Cache n) = IsCacheSize n
+Fits r = Unit {0}
 
-size_of_field : (size : Read ℕ) (rest : Read (List Value))
-    → Fits (cache_from (size >>= λ n. size_or_not n (nat_le 4096 n && nat_le n 68719476736 && (n % 4096 == 0))) rest)
-size_of_field (Ok n) rest = size_tested n (nat_le 4096 n) (nat_le n 68719476736) (n % 4096 == 0) rest refl refl
-size_of_field (Err fault) rest = tt
+forms_fit : (before : List SiteReading) → AllSay Fits (site_forms before)
+forms_fit before = (
+  (λ field value is. tt),
+  (
+    cache_read,
+    (
+      (λ field value is. tt),
+      (
+        (λ field value is. tt),
+        ((λ field value is other drives also. tt), ((λ field value is media m is_media vsn v is_vsn capacity c is_capacity. tt), tt)),
+      ),
+    ),
+  ),
+)
 
-cache_fits : (before : SiteSoFar) (fields : List Field) → Fits (read_form (site_form before directives.Cache) fields)
-unfolding next_field multiple_value
-cache_fits before [] = tt
-cache_fits before (field ∷ fields) = size_of_field (bad_value (size_of field)) (more_values None fields)
+said_fits : (before : List SiteReading) (line : Line) (r : SiteReading) → SiteLineSays before line r → Fits r
+said_fits before line r says = directive_gives Fits (site_forms before) line.fields r (forms_fit before) says.says
 
--- other lines read no cache
-other_fits : (form : Form Value SiteReading) → ((values : List Value) → Fits (Ok (form.says values))) → (read : Read (List Value)) → Fits (read >>= λ values. Ok (form.says values))
-other_fits form other (Ok values) = other values
-other_fits form other (Err fault) = tt
+abbrev AllFit : List SiteReading → Type 0
+AllFit [] = Unit {0}
+AllFit (r ∷ said) = Fits r × AllFit said
 
-form_fits : (before : SiteSoFar) (directive : SiteDirective) (fields : List Field) → Fits (read_form (site_form before directive) fields)
-form_fits before directives.FileSystem fields = let form = site_form before directives.FileSystem in other_fits form (λ values. tt) (values_of form.kinds form.more fields)
-form_fits before directives.Cache fields = cache_fits before fields
-form_fits before directives.High fields = let form = site_form before directives.High in other_fits form (λ values. tt) (values_of form.kinds form.more fields)
-form_fits before directives.Low fields = let form = site_form before directives.Low in other_fits form (λ values. tt) (values_of form.kinds form.more fields)
-form_fits before directives.Library fields = let form = site_form before directives.Library in other_fits form (λ values. tt) (values_of form.kinds form.more fields)
-form_fits before directives.Volume fields = let form = site_form before directives.Volume in other_fits form (λ values. tt) (values_of form.kinds form.more fields)
+all_fit : (before : List SiteReading) (lines : List Line) (said : List SiteReading) → LinesSayBehind SiteLineSays before lines said → AllFit said
+all_fit before [] [] say = tt
+all_fit before [] (r ∷ said) say = absurd say
+all_fit before (line ∷ lines) [] say = absurd say
+all_fit before (line ∷ lines) (r ∷ said) (says, say) = (said_fits before line r says, all_fit (before ++ r ∷ []) lines said say)
 
--- each line
-abbrev with_values : List Field → Form Value SiteReading → Read (Form Value SiteReading × List Field)
-with_values values form = Ok (form, values)
+abbrev FitsIf : Option ℕ → Type 0
+FitsIf (Some n) = IsCacheSize n
+FitsIf None = Unit {0}
 
-abbrev read_values : Form Value SiteReading × List Field → Read SiteReading
-read_values x = read_form x.0 x.1
+last_fits : (o : Option ℕ) (said : List SiteReading) → FitsIf o → AllFit said → FitsIf (last_or o (filter_map cache_in said))
+last_fits o [] fits all = fits
+last_fits o (readings.Cache n ∷ said) fits (first, all) = last_fits (Some n) said first all
+last_fits o (readings.FileSystem name ∷ said) fits (first, all) = last_fits o said fits all
+last_fits o (readings.High n ∷ said) fits (first, all) = last_fits o said fits all
+last_fits o (readings.Low n ∷ said) fits (first, all) = last_fits o said fits all
+last_fits o (readings.Library library ∷ said) fits (first, all) = last_fits o said fits all
+last_fits o (readings.Volume volume ∷ said) fits (first, all) = last_fits o said fits all
 
-name_fits : (before : SiteSoFar) (values : List Field) (empty : Bool) (directive : Option SiteDirective)
-    → Fits ((if empty then Err MissingField else (wanted (option_map (site_form before) directive) UnknownDirective >>= with_values values)) >>= read_values)
-name_fits before values true directive = tt
-name_fits before values false None = tt
-name_fits before values false (Some directive) = form_fits before directive values
-
-line_from : (before : SiteSoFar) (field : Field) (fields : List Field) (line : Option (Field × List Field)) → value_line (field ∷ fields) ≡ line
-    → Fits (read_directive (site_names before) no_words (field ∷ fields))
-unfolding form_at
-line_from before field fields None is = rw is tt
-line_from before field fields (Some x) is = rw is (name_fits before x.1 (length x.0 == 0) (named site_directives x.0))
-
-line_fits : (before : SiteSoFar) (fields : List Field) → Fits (read_directive (site_names before) no_words fields)
-unfolding form_at
-line_fits before [] = tt
-line_fits before (field ∷ fields) = line_from before field fields (value_line (field ∷ fields)) refl
-
-said_fits : (before : List SiteReading) (line : Line) (r : SiteReading) → SiteLineSays before line r → Fits (Ok r)
-said_fits before line r says = subst Fits (directive_read (site_names (site_so_far before)) no_words line.fields r says.says) (line_fits (site_so_far before) line.fields)
+or_default : (o : Option ℕ) → FitsIf o → IsCacheSize (unwrap_or o default_cache)
+or_default (Some n) fits = fits
+or_default None fits = (omega arith, omega arith)
 
 -- The cache of a site has 4 KiB to 64 GiB, also where no line gives one.
-pub cache_in_range : (said : List SiteReading) (lines : List Line) → LinesSay SiteLineSays lines said → IsCacheSize (unwrap_or (cache_of said) 67108864)
-cache_in_range [] lines say = (omega arith, omega arith)
-cache_in_range (readings.Cache n ∷ before) lines (front, line, cut, say, says) = said_fits before line (readings.Cache n) says
-cache_in_range (readings.FileSystem name ∷ before) lines (front, line, cut, say, says) = cache_in_range before front say
-cache_in_range (readings.High n ∷ before) lines (front, line, cut, say, says) = cache_in_range before front say
-cache_in_range (readings.Low n ∷ before) lines (front, line, cut, say, says) = cache_in_range before front say
-cache_in_range (readings.Library library ∷ before) lines (front, line, cut, say, says) = cache_in_range before front say
-cache_in_range (readings.Volume v ∷ before) lines (front, line, cut, say, says) = cache_in_range before front say
+pub cache_in_range : (said : List SiteReading) (lines : List Line) → LinesSay SiteLineSays lines said → IsCacheSize (unwrap_or (cache_of said) default_cache)
+cache_in_range said lines say = or_default (cache_of said) (last_fits None said tt (all_fit [] lines said say))

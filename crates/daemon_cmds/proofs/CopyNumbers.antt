@@ -3,9 +3,8 @@ use Rattle.std.proofs.Common.{◌≡◌, ℕ, ◌+◌, List, [], ◌∷◌, ◌+
 use Rattle.std.specs.Prelude.{position}
 use Rattle.site_text.specs.declared.fault.ConfFault.{ConfFault}
 use Rattle.site_text.specs.Fields.{Read, ◌>>=◌}
-use Rattle.site_text.specs.Forms.{each_value}
 use Rattle.site_text.proofs.Cuts.{at_some, at_none}
-use Rattle.daemon_cmds.specs.StagerLines.{is_colon, copy_number, copy_numbers}
+use Rattle.daemon_cmds.specs.StagerRules.{is_colon, copy_number, each_number, copy_numbers}
 
 -- what is read, behind the numbers that were read before
 abbrev pub behind : List ℕ → Read (List ℕ) → Read (List ℕ)
@@ -29,7 +28,7 @@ moved copies n (Err fault) = refl
 first_part : (rest : List ℕ) (at : ℕ) → position is_colon rest ≡ Some at
     → copy_numbers rest ≡ (copy_number (take at rest) >>= λ n. copy_numbers (drop (at + 1) rest) >>= λ more. Ok (n ∷ more))
 unfolding copy_numbers
-first_part rest at is = ap (each_value copy_number) (at_some is_colon rest at is).cut
+first_part rest at is = ap (each_number) (at_some is_colon rest at is).cut
 
 -- the first part is a number
 pub goes_on : (copies rest part more : List ℕ) (at n : ℕ) → position is_colon rest ≡ Some at → part ≡ take at rest → more ≡ drop (at + 1) rest

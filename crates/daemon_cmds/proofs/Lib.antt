@@ -1,7 +1,11 @@
+mod BarWords
+mod Carried
+mod Places
+mod SiteKnown
+mod StagerKnown
+mod ReleaserKnown
+mod RecyclerKnown
 mod CopyNumbers
-mod LastOptions
-mod NoRecycleLines
-mod EachLibrary
-mod KnownLibraries
-mod LastSettings
+mod CopyOrder
 pub mod CacheRange
+mod KnownLibraries

@@ -1,20 +1,21 @@
--- Lines of recycler.cmd: what is read from the left is what the line says, both ways.
+-- The law of lines of recycler.cmd, which the reader cites: what is read from the left is what the line says, both ways.
 use Rattle.std.proofs.Common.{◌≡◌, ◌≢◌, ℕ, List, [], ◌∷◌, codes, Bool, true, false, Option, Some, None, Ok, Err, refl, sym, ap, ◌∙◌, inl, inr}
 use Rattle.std.proofs.lemmas.Slice.Eq.{bytes_eq-Decides}
 use Rattle.site_text.specs.declared.fault.ConfFault.{ConfFault}
 use Rattle.site_text.specs.Fields.{Field, Read, ◌>>=◌}
 use Rattle.site_text.specs.ValueLines.{value_line}
-use Rattle.site_text.specs.Directives.{read_directive}
-use Rattle.site_text.specs.Options.{options_of}
+use Rattle.site_text.specs.DirectiveSteps.{read_directive}
+use Rattle.site_text.specs.OptionSteps.{options_of}
 use Rattle.site_text.proofs.FormLaws.{directive_said, directive_wrong, directive_read, directive_refused}
 use Rattle.site_text.proofs.OptionLaws.{options_said, options_wrong, options_read, options_refused}
 use Rattle.daemon_cmds.specs.declared.site_conf.Library.{Library}
 use Rattle.daemon_cmds.specs.declared.recycler_conf.RecycleOption.{RecycleOption}
 use Rattle.daemon_cmds.specs.declared.recycler_conf.RecyclerReading.{RecyclerReading}
 use Rattle.daemon_cmds.specs.declared.recycler_conf.RecyclerReading.TheVariants as readings
-use Rattle.daemon_cmds.specs.BarredLaws.{fault_or_read}
-use Rattle.daemon_cmds.specs.SiteLines.{library_place}
-use Rattle.daemon_cmds.specs.RecyclerLines.{recycle_options, recycler_names, recycler_words, is_no_recycle, library_in, library_at, NamesLibrary, NamesNone, LibrarySays, LibraryWrong, RecyclerSays, RecyclerWrong, library_or_other, read_recycler_line}
+use Rattle.daemon_cmds.specs.BarLaws.{fault_or_read}
+use Rattle.daemon_cmds.specs.SiteRules.{library_place}
+use Rattle.daemon_cmds.specs.RecyclerRules.{recycle_options, recycler_names, recycler_words, NamesLibrary, NamesNone, LibrarySays, LibraryWrong, RecyclerSays, RecyclerWrong}
+use Rattle.daemon_cmds.specs.RecyclerSteps.{is_no_recycle, library_in, library_at, library_or_other, read_recycler_line}
 
 abbrev read_of : Read RecyclerReading → RecyclerReading → RecyclerReading
 read_of (Ok said) other = said

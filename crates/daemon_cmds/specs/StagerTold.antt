@@ -1,45 +1,40 @@
--- What the lines of a stager.cmd tell. In these lists of readings the latest stands first.
-use Rattle.std.specs.Prelude.{◌≡◌, ℕ, List, [], ◌∷◌, map, slice_set}
-use Rattle.site_text.specs.declared.fault.ConfFault.{ConfFault}
-use Rattle.site_text.specs.declared.line.Line.{Line}
-use Rattle.site_text.specs.Fields.{Read}
-use Rattle.site_text.specs.Directives.{read_directive, DirectiveSays, DirectiveWrong}
+-- What the lines of a stager.cmd tell. Readings stand in the order of the file.
+use Rattle.std.specs.Prelude.{◌≡◌, ℕ, List, [], ◌∷◌, map, Option, Some, None, ◌==◌, if◌then◌else◌, unwrap_or}
+use Rattle.std.specs.List.{enumerate_from}
+use Rattle.site_text.specs.LastValues.{last_of}
 use Rattle.daemon_cmds.specs.declared.site_conf.SiteConf.{SiteConf}
 use Rattle.daemon_cmds.specs.declared.stager_conf.StagerConf.{StagerConf}
 use Rattle.daemon_cmds.specs.declared.stager_conf.StagerReading.{StagerReading}
 use Rattle.daemon_cmds.specs.declared.stager_conf.StagerReading.TheVariants as readings
-use Rattle.daemon_cmds.specs.StagerLines.{stager_names}
-use Rattle.site_text.specs.Plain.{no_words}
 
--- ---- lines, in a site
+-- ---- what a line gives
 
-abbrev pub stager_line : SiteConf → List StagerReading → Line → Read StagerReading
-stager_line site before line = read_directive (stager_names site.libraries) no_words line.fields
+-- the drives of the library at this place
+abbrev pub drives_in : ℕ → StagerReading → Option ℕ
+drives_in place (readings.Drives library n) = if library == place then Some n else None
+drives_in place reading = None
 
-abbrev pub StagerLineSays : SiteConf → List StagerReading → Line → StagerReading → Type 0
-StagerLineSays site before line said = DirectiveSays (stager_names site.libraries) no_words line.fields said
+abbrev pub maxactive_in : StagerReading → Option ℕ
+maxactive_in (readings.MaxActive n) = Some n
+maxactive_in reading = None
 
-abbrev pub StagerLineWrong : SiteConf → List StagerReading → Line → ConfFault → Type 0
-StagerLineWrong site before line fault = DirectiveWrong (stager_names site.libraries) no_words line.fields fault
+abbrev pub copysel_in : StagerReading → Option (List ℕ)
+copysel_in (readings.CopySel copies) = Some copies
+copysel_in reading = None
 
--- ---- the configuration: of each directive the last one holds, of `drives` the last one for that library
+-- ---- the configuration: the last line holds, of `drives` the last one for that library
 
+abbrev pub default_maxactive : ℕ
+default_maxactive = 4000
+
+abbrev pub default_copysel : List ℕ
+default_copysel = 1 ∷ 2 ∷ 3 ∷ 4 ∷ []
+
+-- of each library of the site the drives that the last line for it gives, or all that it has
 abbrev pub drives_of : SiteConf → List StagerReading → List ℕ
-drives_of site [] = map (λ l. l.drives) site.libraries
-drives_of site (readings.Drives library n ∷ before) = slice_set (drives_of site before) library n
-drives_of site (r ∷ before) = drives_of site before
-
-abbrev pub maxactive_of : List StagerReading → ℕ
-maxactive_of [] = 4000
-maxactive_of (readings.MaxActive n ∷ before) = n
-maxactive_of (r ∷ before) = maxactive_of before
-
-abbrev pub copysel_of : List StagerReading → List ℕ
-copysel_of [] = 1 ∷ 2 ∷ 3 ∷ 4 ∷ []
-copysel_of (readings.CopySel copies ∷ before) = copies
-copysel_of (r ∷ before) = copysel_of before
+drives_of site said = map (λ l. unwrap_or (last_of (drives_in l.0) said) l.1.drives) (enumerate_from 0 site.libraries)
 
 pub record TellsStager (site : SiteConf) (said : List StagerReading) (conf : StagerConf) : Type 0 where
   pub drives : conf.drives ≡ drives_of site said
-  pub maxactive : conf.maxactive ≡ maxactive_of said
-  pub copysel : conf.copysel ≡ copysel_of said
+  pub maxactive : conf.maxactive ≡ unwrap_or (last_of maxactive_in said) default_maxactive
+  pub copysel : conf.copysel ≡ unwrap_or (last_of copysel_in said) default_copysel

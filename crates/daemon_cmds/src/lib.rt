@@ -1,7 +1,6 @@
 //! The command files of a site beside the archiver's: site.conf, stager.cmd, releaser.cmd and recycler.cmd.
 #![tactic(auto)]
 
-mod plain;
 mod recycler;
 mod recycler_conf;
 mod recycler_lines;
@@ -15,7 +14,6 @@ mod stager;
 mod stager_conf;
 mod stager_lines;
 
-pub use plain::{plain_recycler, plain_releaser, plain_site, plain_stager};
 pub use recycler::{each_recycler_says_one_thing, read_recycler};
 pub use recycler_conf::{LibraryRecycling, NoRecycle, RecyclerConf};
 pub use releaser::{each_releaser_says_one_thing, read_releaser};

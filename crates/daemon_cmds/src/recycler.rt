@@ -1,38 +1,38 @@
 //! Reading recycler.cmd.
 
-ghost use Rattle.std.specs.Prelude.{◌≡◌, ◌≤◌, ℕ, List as Seq, length, map, IfOk};
-ghost use Rattle.site_text.specs.Files.{FileAnswers};
+ghost use Rattle.std.specs.Prelude.{◌≡◌, ◌≤◌, ℕ, [], List as Seq, length, map, OnOk, IfOk};
+ghost use Rattle.site_text.specs.FileRules.{FileAnswers, no_section};
 ghost use Rattle.site_text.specs.OneMeaning.{SaysOneThing};
-ghost use Rattle.site_text.specs.Plain.{no_section};
-ghost use Rattle.daemon_cmds.specs.RecyclerTold.{recycler_line, RecyclerLineSays, RecyclerLineWrong, TellsRecycler, usual_recycling, with_option, with_options};
+ghost use Rattle.daemon_cmds.specs.RecyclerTold.{TellsRecycler, recycling_of};
+ghost use Rattle.daemon_cmds.specs.RecyclerRules.{RecyclerLineSays, RecyclerLineWrong};
+ghost use Rattle.daemon_cmds.specs.RecyclerSteps.{recycler_line, with_option, with_options, with_recycler_reading};
 
 use crate::recycler_conf::{LibraryRecycling, RecycleOption, RecyclerConf, RecyclerReading};
 use crate::recycler_lines::read_recycler_line;
 use crate::site_conf::{Library, SiteConf};
-use site_text::{
-    CommandFile, ConfError, Line, LineError, List, each_text_says_one_thing, read_file,
-};
+use base::List;
+use site_text::{CommandFile, ConfError, Line, LineError, each_text_says_one_thing, read_file};
 use std::alloc::{AllocError, Global};
 
 /// How a library is recycled for which nothing is given.
-fn usual_recycling() -> LibraryRecycling
-    ensures { result ≡ usual_recycling }
+fn default_recycling() -> LibraryRecycling
+    ensures { result ≡ recycling_of [] }
 {
     LibraryRecycling {
         hwm: 95,
         mingain: 60,
         vsncount: 1,
-        dataquantity: 1_073_741_824,
+        dataquantity: 1 << 30,
         ignore: false,
     }
 }
 
-fn all_usual(alloc: Global, libraries: &[Library]) -> Result<List<LibraryRecycling>, AllocError>
-    ensures { IfOk result (λ all. all ≡ map (λ l. usual_recycling) libraries.now) }
+fn all_default(alloc: Global, libraries: &[Library]) -> Result<List<LibraryRecycling>, AllocError>
+    ensures { IfOk result (λ all. all ≡ map (λ l. recycling_of []) libraries.now) }
 {
     let mut all = List::new(alloc);
     for _library in libraries {
-        all.push(usual_recycling())?;
+        all.push(default_recycling())?;
     }
     Ok(all)
 }
@@ -63,14 +63,34 @@ fn with_options(library: LibraryRecycling, options: &[RecycleOption]) -> Library
     library
 }
 
+/// One line told this too.
+fn add_reading(known: &mut RecyclerConf, reading: RecyclerReading) -> Result<(), AllocError>
+    ensures { OnOk result (known.new ≡ with_recycler_reading known.old reading) }
+{
+    match reading {
+        RecyclerReading::Library(place, options) => {
+            let now = known.libraries.as_slice().get(place).copied();
+            if let Some(now) = now {
+                let now = with_options(now, options.as_slice());
+                known.libraries.set(place, now);
+            }
+        }
+        RecyclerReading::NoRecycle(volumes) => known.no_recycle.push(volumes)?,
+        RecyclerReading::Nothing => {}
+    }
+    Ok(())
+}
+
 #[derive(Drop)]
 struct RecyclerFile<'a> {
     site: &'a SiteConf,
 }
 
 impl CommandFile for RecyclerFile<'_> {
-    ghost use Rattle.site_text.specs.Plain.{no_section};
-    ghost use Rattle.daemon_cmds.specs.RecyclerTold.{recycler_line, RecyclerLineSays, RecyclerLineWrong, TellsRecycler};
+    ghost use Rattle.site_text.specs.FileRules.{no_section};
+    ghost use Rattle.daemon_cmds.specs.RecyclerTold.{TellsRecycler};
+    ghost use Rattle.daemon_cmds.specs.RecyclerRules.{RecyclerLineSays, RecyclerLineWrong};
+    ghost use Rattle.daemon_cmds.specs.RecyclerSteps.{recycler_line};
     ghost use Rattle.daemon_cmds.specs.RecyclerLaws.{recycler_said, recycler_wrong, recycler_read, recycler_refused};
 
     type Reading = RecyclerReading;
@@ -89,7 +109,7 @@ impl CommandFile for RecyclerFile<'_> {
 
     fn start(&self, alloc: Global) -> Result<RecyclerConf, AllocError> {
         Ok(RecyclerConf {
-            libraries: all_usual(alloc, self.site.libraries.as_slice())?,
+            libraries: all_default(alloc, self.site.libraries.as_slice())?,
             no_recycle: List::new(alloc),
         })
     }
@@ -104,18 +124,7 @@ impl CommandFile for RecyclerFile<'_> {
     }
 
     fn add(&self, known: &mut RecyclerConf, reading: RecyclerReading) -> Result<(), AllocError> {
-        match reading {
-            RecyclerReading::Library(place, options) => {
-                let now = known.libraries.as_slice().get(place).copied();
-                if let Some(now) = now {
-                    let now = with_options(now, options.as_slice());
-                    known.libraries.set(place, now);
-                }
-            }
-            RecyclerReading::NoRecycle(volumes) => known.no_recycle.push(volumes)?,
-            RecyclerReading::Nothing => {}
-        }
-        Ok(())
+        add_reading(known, reading)
     }
 
     fn open_section(&self, _known: &RecyclerConf) -> Option<u32> {

@@ -1,6 +1,6 @@
 //! What recycler.cmd says.
 
-use site_text::{Bytes, List};
+use base::{Bytes, List};
 
 /// How the volumes of a library are recycled.
 #[derive(Clone, Copy, Debug, PartialEq, Eq)]

@@ -1,87 +1,110 @@
 //! The lines of recycler.cmd.
 
-ghost use Rattle.std.specs.Prelude.{◌≡◌, ◌∷◌, [], List as Seq, codes, Some, None, IfOk, if◌then◌else◌, option_map};
+ghost use Rattle.std.specs.Prelude.{◌≡◌, ◌∷◌, codes, IfOk, option_map};
 ghost use Rattle.std.specs.Str.{bytes_eq};
-ghost use Rattle.site_text.specs.Fields.{Gives, Leaves};
-ghost use Rattle.site_text.specs.Forms.{read_form};
-ghost use Rattle.site_text.specs.Directives.{read_directive};
-ghost use Rattle.site_text.specs.Options.{options_of};
-ghost use Rattle.daemon_cmds.specs.RecyclerLines.{no_recycle_form, is_no_recycle, recycler_words, recycler_names, recycle_words, recycle_options, library_at, library_line, read_recycler_line};
+ghost use Rattle.site_text.specs.Fields.{Gives};
+ghost use Rattle.site_text.specs.Words.{option_named};
+ghost use Rattle.site_text.specs.FormSteps.{read_form};
+ghost use Rattle.site_text.specs.DirectiveSteps.{read_directive};
+ghost use Rattle.daemon_cmds.specs.RecyclerRules.{no_recycle_form, recycler_words, recycler_names};
+ghost use Rattle.daemon_cmds.specs.RecyclerSteps.{is_no_recycle, recycle_words, library_at, library_line, read_recycler_line};
 
 use crate::recycler_conf::{NoRecycle, RecycleOption, RecyclerReading};
 use crate::site_conf::Library;
 use crate::site_lines::library_place;
+use base::{Bytes, List};
 use site_text::{
-    Bytes, ConfFault, Fields, Line, LineError, List, OptionTable, is_media, number_value,
+    ConfFault, Fields, Line, LineError, OptionTable, TableOption, is_media, number_value,
     option_named, read_ignored, read_options, size_value, value_line,
 };
 use std::alloc::{AllocError, Global};
 
-/// An option of a library's line.
+/// An option of a library's line that takes a value.
 #[derive(Clone, Copy, PartialEq, Eq)]
-pub enum RecycleWord {
+pub enum ValuedOption {
     Hwm,
     MinGain,
     VsnCount,
     DataQuantity,
-    Ignore,
     Mail,
 }
 
+/// An option of a library's line.
+#[derive(Clone, Copy, PartialEq, Eq)]
+pub enum RecycleWord {
+    Ignore,
+    Valued(ValuedOption),
+}
+
 const WORDS: [(&[u8], RecycleWord); 6] = [
-    (b"-hwm", RecycleWord::Hwm),
-    (b"-mingain", RecycleWord::MinGain),
-    (b"-vsncount", RecycleWord::VsnCount),
-    (b"-dataquantity", RecycleWord::DataQuantity),
+    (b"-hwm", RecycleWord::Valued(ValuedOption::Hwm)),
+    (b"-mingain", RecycleWord::Valued(ValuedOption::MinGain)),
+    (b"-vsncount", RecycleWord::Valued(ValuedOption::VsnCount)),
+    (
+        b"-dataquantity",
+        RecycleWord::Valued(ValuedOption::DataQuantity),
+    ),
     (b"-ignore", RecycleWord::Ignore),
-    (b"-mail", RecycleWord::Mail),
+    (b"-mail", RecycleWord::Valued(ValuedOption::Mail)),
 ];
+
+/// The greatest number that a field can say.
+const MOST_NUMBER: u32 = 999_999_999;
+
+/// The greatest size in bytes that a field can say.
+const MOST_SIZE: u64 = (1 << 50) - 1;
+
+fn word_named(field: &[u8]) -> Result<RecycleWord, ConfFault>
+    ensures { result ≡ option_named recycle_words field.now }
+{
+    option_named(&WORDS, field)
+}
 
 /// The options of a library's line.
 #[derive(Drop)]
 struct RecycleOptions;
 
 impl OptionTable for RecycleOptions {
-    ghost use Rattle.daemon_cmds.specs.RecyclerLines.{recycle_options};
+    ghost use Rattle.daemon_cmds.specs.RecyclerRules.{recycle_options};
+    ghost use Rattle.daemon_cmds.specs.RecyclerSteps.{value_of};
 
-    type Word = RecycleWord;
+    type Word = ValuedOption;
 
     type Given = RecycleOption;
 
     ghost options = { λ table. recycle_options };
 
-    fn named(&self, field: &[u8]) -> Result<RecycleWord, ConfFault> {
-        option_named(&WORDS, field)
-    }
+    ghost value_of = { λ table. value_of };
 
-    fn takes_value(&self, word: RecycleWord) -> bool {
-        !matches!(word, RecycleWord::Ignore)
+    fn option(
+        &self,
+        _alloc: Global,
+        field: &[u8],
+    ) -> Result<TableOption<RecycleOption, ValuedOption>, LineError> {
+        match word_named(field) {
+            Ok(RecycleWord::Ignore) => Ok(TableOption::Alone(RecycleOption::Ignore)),
+            Ok(RecycleWord::Valued(option)) => Ok(TableOption::WithValue(option)),
+            Err(fault) => Err(LineError::Fault(fault)),
+        }
     }
 
     fn value(
         &self,
         _alloc: Global,
-        word: RecycleWord,
+        word: ValuedOption,
         field: &[u8],
     ) -> Result<RecycleOption, LineError> {
         match word {
-            RecycleWord::Hwm => Ok(RecycleOption::Hwm(number_value(0, 100, field)?)),
-            RecycleWord::MinGain => Ok(RecycleOption::MinGain(number_value(0, 100, field)?)),
-            RecycleWord::VsnCount => {
-                Ok(RecycleOption::VsnCount(number_value(0, 999_999_999, field)?))
+            ValuedOption::Hwm => Ok(RecycleOption::Hwm(number_value(0, 100, field)?)),
+            ValuedOption::MinGain => Ok(RecycleOption::MinGain(number_value(0, 100, field)?)),
+            ValuedOption::VsnCount => {
+                Ok(RecycleOption::VsnCount(number_value(0, MOST_NUMBER, field)?))
             }
-            RecycleWord::DataQuantity => Ok(RecycleOption::DataQuantity(size_value(
-                0,
-                1_125_899_906_842_623,
-                field,
+            ValuedOption::DataQuantity => Ok(RecycleOption::DataQuantity(size_value(
+                0, MOST_SIZE, field,
             )?)),
-            RecycleWord::Ignore => Ok(RecycleOption::Ignore),
-            RecycleWord::Mail => Ok(RecycleOption::Nothing),
+            ValuedOption::Mail => Ok(RecycleOption::Nothing),
         }
-    }
-
-    fn alone(&self, _alloc: Global, _word: RecycleWord) -> RecycleOption {
-        RecycleOption::Ignore
     }
 
     fn excludes(&self, _before: &[RecycleOption], _given: &RecycleOption) -> bool {
@@ -150,7 +173,7 @@ fn no_recycle_line(alloc: Global, line: u32, fields: &[Bytes]) -> Result<Recycle
 }
 
 /// What a line says that begins with no library.
-#[tactic(auto, unfolding(site_text::specs::Directives::form_at))]
+#[tactic(auto, unfolding(site_text::specs::DirectiveSteps::form_by))]
 fn other_line(alloc: Global, line: u32, fields: &[Bytes]) -> Result<RecyclerReading, LineError>
     ensures { Gives (λ r. r) result (read_directive recycler_names (recycler_words line) fields.now) }
 {

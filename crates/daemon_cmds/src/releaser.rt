@@ -1,11 +1,11 @@
 //! Reading releaser.cmd.
 
-ghost use Rattle.std.specs.Prelude.{◌≡◌, ◌≤◌, ℕ, length, List as Seq, IfOk, Some, None};
-ghost use Rattle.site_text.specs.Files.{FileAnswers};
+ghost use Rattle.std.specs.Prelude.{◌≡◌, ◌≤◌, ℕ, length, List as Seq, OnOk, IfOk, Some, None};
+ghost use Rattle.site_text.specs.FileRules.{FileAnswers, no_section};
 ghost use Rattle.site_text.specs.OneMeaning.{SaysOneThing};
-ghost use Rattle.site_text.specs.Plain.{no_section};
-ghost use Rattle.daemon_cmds.specs.ReleaserLines.{same_part};
-ghost use Rattle.daemon_cmds.specs.ReleaserTold.{releaser_line, ReleaserLineSays, ReleaserLineWrong, KnowsReleaser, TellsReleaser, ComesTo, nothing_set, with_setting, weight_or_one, has_separate, separate_hold, age_weights};
+ghost use Rattle.daemon_cmds.specs.ReleaserTold.{same_part, TellsReleaser};
+ghost use Rattle.daemon_cmds.specs.ReleaserRules.{ReleaserLineSays, ReleaserLineWrong};
+ghost use Rattle.daemon_cmds.specs.ReleaserSteps.{releaser_line, ComesTo, nothing_set, with_setting, with_releaser_reading, weight_or_one, has_separate, separate_hold, age_weights};
 
 use crate::releaser_conf::{
     AgeWeights, PartSetting, ReleaserConf, ReleaserReading, ReleaserSoFar, Setting, Settings,
@@ -13,10 +13,15 @@ use crate::releaser_conf::{
 };
 use crate::releaser_lines::read_releaser_line;
 use crate::site_conf::SiteConf;
-use site_text::{
-    Bytes, CommandFile, ConfError, Line, LineError, List, each_text_says_one_thing, read_file,
-};
+use base::{Bytes, List};
+use site_text::{CommandFile, ConfError, Line, LineError, each_text_says_one_thing, read_file};
 use std::alloc::{AllocError, Global};
+
+/// The weight 1.0, in millionths, which holds where none is given.
+const WEIGHT_ONE: u32 = 1_000_000;
+
+/// The least residence where none is given, in seconds.
+const DEFAULT_RESIDENCE: u64 = 600;
 
 fn nothing_set() -> Settings
     ensures { result ≡ nothing_set }
@@ -75,16 +80,41 @@ fn copy_part(part: &Option<Bytes>) -> Result<Option<Bytes>, AllocError>
     }
 }
 
+/// One line told this too.
+fn add_reading(
+    site: &SiteConf,
+    known: &mut ReleaserSoFar,
+    reading: ReleaserReading,
+) -> Result<(), AllocError>
+    ensures { OnOk result (known.new ≡ with_releaser_reading site.now known.old reading) }
+{
+    match reading {
+        ReleaserReading::Part(name) => known.part = Some(name),
+        ReleaserReading::Set(setting) => {
+            let part = copy_part(&known.part)?;
+            if is_global(&part) {
+                known.global = with_setting(&known.global, setting);
+            }
+            if is_part_of(&part, site.name.as_slice()) {
+                known.local = with_setting(&known.local, setting);
+            }
+            known.given.push(PartSetting { part, setting })?;
+        }
+        ReleaserReading::Nothing => {}
+    }
+    Ok(())
+}
+
 #[derive(Drop)]
 struct ReleaserFile<'a> {
     site: &'a SiteConf,
 }
 
 impl CommandFile for ReleaserFile<'_> {
-    ghost use Rattle.site_text.specs.Plain.{no_section};
-    ghost use Rattle.daemon_cmds.specs.ReleaserTold.{releaser_line, ReleaserLineSays, ReleaserLineWrong, KnowsReleaser, part_of, given_of};
-    ghost use Rattle.daemon_cmds.specs.ReleaserLines.{releaser_bars, releaser_names, releaser_bare};
-    ghost use Rattle.daemon_cmds.specs.BarredLaws.{barred_said, barred_wrong, barred_read, barred_refused};
+    ghost use Rattle.site_text.specs.FileRules.{no_section};
+    ghost use Rattle.daemon_cmds.specs.ReleaserRules.{releaser_bars, releaser_forms, word_forms, ReleaserLineSays, ReleaserLineWrong};
+    ghost use Rattle.daemon_cmds.specs.ReleaserSteps.{releaser_line, KnowsReleaser};
+    ghost use Rattle.daemon_cmds.specs.BarLaws.{barred_said, barred_wrong, barred_read, barred_refused};
 
     type Reading = ReleaserReading;
 
@@ -118,38 +148,23 @@ impl CommandFile for ReleaserFile<'_> {
         read_releaser_line(alloc, &known.part, &known.given, line.fields.as_slice())
     }
 
-    #[tactic(auto, using(crate::proofs::LastSettings::set_in))]
     fn add(&self, known: &mut ReleaserSoFar, reading: ReleaserReading) -> Result<(), AllocError> {
-        match reading {
-            ReleaserReading::Part(name) => known.part = Some(name),
-            ReleaserReading::Set(setting) => {
-                let part = copy_part(&known.part)?;
-                if is_global(&part) {
-                    known.global = with_setting(&known.global, setting);
-                }
-                if is_part_of(&part, self.site.name.as_slice()) {
-                    known.local = with_setting(&known.local, setting);
-                }
-                known.given.push(PartSetting { part, setting })?;
-            }
-            ReleaserReading::Nothing => {}
-        }
-        Ok(())
+        add_reading(self.site, known, reading)
     }
 
     fn open_section(&self, _known: &ReleaserSoFar) -> Option<u32> {
         None
     }
 
-    ghost reads_what_is_said = { λ file before line reading. (barred_said (releaser_bars (part_of before) (given_of before)) releaser_names releaser_bare line.fields reading, barred_read (releaser_bars (part_of before) (given_of before)) releaser_names releaser_bare line.fields reading) };
+    ghost reads_what_is_said = { λ file before line reading. (barred_said (releaser_bars before) releaser_forms word_forms line.fields reading, barred_read (releaser_bars before) releaser_forms word_forms line.fields reading) };
 
-    ghost refuses_what_is_wrong = { λ file before line fault. (barred_wrong (releaser_bars (part_of before) (given_of before)) releaser_names releaser_bare line.fields fault, barred_refused (releaser_bars (part_of before) (given_of before)) releaser_names releaser_bare line.fields fault) };
+    ghost refuses_what_is_wrong = { λ file before line fault. (barred_wrong (releaser_bars before) releaser_forms word_forms line.fields fault, barred_refused (releaser_bars before) releaser_forms word_forms line.fields fault) };
 }
 
 fn weight_or_one(local: Option<u32>, global: Option<u32>) -> u32
     ensures { result ≡ weight_or_one local global }
 {
-    local.or(global).unwrap_or(1_000_000)
+    local.or(global).unwrap_or(WEIGHT_ONE)
 }
 
 fn has_separate(settings: &Settings) -> bool
@@ -188,7 +203,7 @@ pub fn conf_of(local: &Settings, global: &Settings) -> ReleaserConf
         min_residence_age: local
             .min_residence_age
             .or(global.min_residence_age)
-            .unwrap_or(600),
+            .unwrap_or(DEFAULT_RESIDENCE),
         no_release: local.no_release || global.no_release,
         rearch_no_release: local.rearch_no_release || global.rearch_no_release,
     }

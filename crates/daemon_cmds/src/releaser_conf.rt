@@ -1,13 +1,14 @@
 //! What releaser.cmd says.
 
-use site_text::{Bytes, List};
+use base::{Bytes, List};
 
 /// How the ages of a file weigh in its priority. Weights are in millionths, at most 1,000,000.
 #[derive(Clone, Copy, Debug, PartialEq, Eq)]
 pub enum AgeWeights {
-    /// The least of the three ages has this weight.
+    /// The least of the ages since access, modification and residence has this weight. A file resides since its last put, staging or
+    /// release.
     Least(u32),
-    /// The ages since the last access, the last modification and the last staging have each a weight of their own.
+    /// The three ages have each a weight of their own.
     Separate {
         access: u32,
         modify: u32,
@@ -22,7 +23,8 @@ pub struct ReleaserConf {
     pub ages: AgeWeights,
     /// How its size weighs: millionths, at most 1,000,000.
     pub size: u32,
-    /// How long a file stays in the cache at least: seconds, below 2^40.
+    /// How long a file that is released by its priority must reside in the cache before, since its last put, staging or release:
+    /// seconds, below 2^40. A file that is released at once, or by a command, does not wait for it.
     pub min_residence_age: u64,
     /// No file is released.
     pub no_release: bool,
@@ -60,7 +62,7 @@ pub enum ReleaserReading {
     Nothing,
 }
 
-/// What was set in a part: that of a file system, or that before them all.
+/// What was set in a part: in that of a file system, or above them all.
 #[derive(Drop)]
 pub struct PartSetting {
     pub part: Option<Bytes>,

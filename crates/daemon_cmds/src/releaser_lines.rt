@@ -3,17 +3,20 @@
 ghost use Rattle.std.specs.Prelude.{◌≡◌, ◌&&◌};
 ghost use Rattle.site_text.specs.Fields.{Gives};
 ghost use Rattle.site_text.specs.Words.{named};
-ghost use Rattle.site_text.specs.Forms.{read_form};
-ghost use Rattle.site_text.specs.Kinds.{bare_form};
-ghost use Rattle.site_text.specs.Directives.{read_directive};
-ghost use Rattle.daemon_cmds.specs.Barred.{barred, read_unless_barred};
-ghost use Rattle.daemon_cmds.specs.ReleaserLines.{releaser_directives, releaser_words, releaser_form, word_form, releaser_names, releaser_bare, same_part, is_for_all_ages, is_for_one_age, sets_weight, sets_in, weight_bar, releaser_bar, releaser_bars};
+ghost use Rattle.site_text.specs.Forms.{End};
+ghost use Rattle.site_text.specs.FormSteps.{read_form};
+ghost use Rattle.site_text.specs.DirectiveSteps.{read_by};
+ghost use Rattle.daemon_cmds.specs.BarSteps.{barred_by};
+ghost use Rattle.daemon_cmds.specs.ReleaserTold.{same_part, is_age};
+ghost use Rattle.daemon_cmds.specs.ReleaserRules.{is_for_one_age, sets_weight};
+ghost use Rattle.daemon_cmds.specs.ReleaserSteps.{releaser_names, releaser_words, age_names, form_of, word_form, sets_in, bar_of, form_by_name, form_by_word, bar_by_name, line_by_words};
 ghost use Rattle.daemon_cmds.specs.declared.releaser_lines.ReleaserDirective.TheVariants as directives;
 
 use crate::releaser_conf::{PartSetting, ReleaserReading, Setting, Weight};
+use base::{Bytes, List};
 use site_text::{
-    Bytes, ConfFault, Fields, LineError, List, age_value, find_word, is_name, read_ignored,
-    value_line, weight_value,
+    ConfFault, Fields, LineError, age_value, find_word, is_name, read_ignored, value_line,
+    weight_value,
 };
 use std::alloc::Global;
 
@@ -64,8 +67,22 @@ const WORDS: [(&[u8], ReleaserWord); 4] = [
     (b"debug_partial", ReleaserWord::Ignored),
 ];
 
+/// The weights of which some exclude others.
+const AGE_WEIGHTS: [(&[u8], Weight); 4] = [
+    (b"weight_age", Weight::Age),
+    (b"weight_age_access", Weight::Access),
+    (b"weight_age_modify", Weight::Modify),
+    (b"weight_age_residence", Weight::Residence),
+];
+
+fn age_weight_named(name: &[u8]) -> Option<Weight>
+    ensures { result ≡ named age_names name.now }
+{
+    find_word(&AGE_WEIGHTS, name)
+}
+
 fn directive_named(name: &[u8]) -> Option<ReleaserDirective>
-    ensures { result ≡ named releaser_directives name.now }
+    ensures { result ≡ named releaser_names name.now }
 {
     find_word(&DIRECTIVES, name)
 }
@@ -77,7 +94,7 @@ fn word_named(word: &[u8]) -> Option<ReleaserWord>
 }
 
 fn weight_line(weight: Weight, values: Fields) -> Result<ReleaserReading, ConfFault>
-    ensures { result ≡ read_form (releaser_form (directives.Weight weight)) values.entry }
+    ensures { result ≡ read_form (form_of (directives.Weight weight)) values.entry }
 {
     let mut values = values;
     let millionths = values.next()?;
@@ -87,7 +104,7 @@ fn weight_line(weight: Weight, values: Fields) -> Result<ReleaserReading, ConfFa
 }
 
 fn residence_line(values: Fields) -> Result<ReleaserReading, ConfFault>
-    ensures { result ≡ read_form (releaser_form directives.MinResidenceAge) values.entry }
+    ensures { result ≡ read_form (form_of directives.MinResidenceAge) values.entry }
 {
     let mut values = values;
     let age = values.next()?;
@@ -97,7 +114,7 @@ fn residence_line(values: Fields) -> Result<ReleaserReading, ConfFault>
 }
 
 fn part_line(alloc: Global, values: Fields) -> Result<ReleaserReading, LineError>
-    ensures { Gives (λ r. r) result (read_form (releaser_form directives.FileSystem) values.entry) }
+    ensures { Gives (λ r. r) result (read_form (form_of directives.FileSystem) values.entry) }
 {
     let mut values = values;
     let name = values.next()?;
@@ -114,7 +131,7 @@ fn directive_line(
     directive: ReleaserDirective,
     values: Fields,
 ) -> Result<ReleaserReading, LineError>
-    ensures { Gives (λ r. r) result (read_form (releaser_form directive) values.entry) }
+    ensures { Gives (λ r. r) result (read_form (form_of directive) values.entry) }
 {
     match directive {
         ReleaserDirective::Weight(weight) => Ok(weight_line(weight, values)?),
@@ -125,7 +142,7 @@ fn directive_line(
 }
 
 fn alone(said: ReleaserReading, fields: &[Bytes]) -> Result<ReleaserReading, ConfFault>
-    ensures { result ≡ read_form (bare_form said) fields.now }
+    ensures { result ≡ read_form (End said) fields.now }
 {
     let mut fields = Fields::new(fields);
     match fields.end() {
@@ -147,9 +164,9 @@ fn word_line(word: ReleaserWord, fields: &[Bytes]) -> Result<ReleaserReading, Co
     }
 }
 
-#[tactic(auto, unfolding(site_text::specs::Directives::form_at))]
+#[tactic(auto, unfolding(site_text::specs::DirectiveSteps::form_by))]
 fn read_values(alloc: Global, fields: &[Bytes]) -> Result<ReleaserReading, LineError>
-    ensures { Gives (λ r. r) result (read_directive releaser_names releaser_bare fields.now) }
+    ensures { Gives (λ r. r) result (read_by form_by_name form_by_word fields.now) }
 {
     let [first, rest @ ..] = fields else {
         return Err(LineError::Fault(ConfFault::MissingField));
@@ -180,8 +197,8 @@ pub fn same_part(part: &Option<Bytes>, other: &Option<Bytes>) -> bool
     }
 }
 
-fn is_for_all_ages(weight: Weight) -> bool
-    ensures { result ≡ is_for_all_ages weight }
+fn is_age(weight: Weight) -> bool
+    ensures { result ≡ is_age weight }
 {
     matches!(weight, Weight::Age)
 }
@@ -193,11 +210,11 @@ fn is_for_one_age(weight: Weight) -> bool
 }
 
 fn sets_all_ages(given: &PartSetting, part: &Option<Bytes>) -> bool
-    ensures { result ≡ (same_part given.now.part part.now && sets_weight is_for_all_ages given.now.setting) }
+    ensures { result ≡ (same_part given.now.part part.now && sets_weight is_age given.now.setting) }
 {
     same_part(&given.part, part)
         && match given.setting {
-            Setting::Weight(weight, _) => is_for_all_ages(weight),
+            Setting::Weight(weight, _) => is_age(weight),
             _ => false,
         }
 }
@@ -213,7 +230,7 @@ fn sets_one_age(given: &PartSetting, part: &Option<Bytes>) -> bool
 }
 
 fn any_for_all_ages(part: &Option<Bytes>, given: &[PartSetting]) -> bool
-    ensures { result ≡ sets_in is_for_all_ages part.now given.now }
+    ensures { result ≡ sets_in is_age part.now given.now }
 {
     given.iter().any(|g| sets_all_ages(g, part))
 }
@@ -226,7 +243,7 @@ fn any_for_one_age(part: &Option<Bytes>, given: &[PartSetting]) -> bool
 
 /// `Conflict` where a weight for all ages would stand beside one for one age in the same part.
 fn weight_bar(part: &Option<Bytes>, given: &[PartSetting], weight: Weight) -> Option<ConfFault>
-    ensures { result ≡ weight_bar part.now given.now weight }
+    ensures { result ≡ bar_of part.now given.now weight }
 {
     let barred = match weight {
         Weight::Age => any_for_one_age(part, given),
@@ -241,12 +258,12 @@ fn weight_bar(part: &Option<Bytes>, given: &[PartSetting], weight: Weight) -> Op
 }
 
 fn barred(part: &Option<Bytes>, given: &[PartSetting], fields: &[Bytes]) -> Option<ConfFault>
-    ensures { result ≡ barred (releaser_bars part.now given.now) fields.now }
+    ensures { result ≡ barred_by (bar_by_name part.now given.now) fields.now }
 {
     match value_line(fields) {
-        Some((name, _)) => match directive_named(name) {
-            Some(ReleaserDirective::Weight(weight)) => weight_bar(part, given, weight),
-            _ => None,
+        Some((name, _)) => match age_weight_named(name) {
+            Some(weight) => weight_bar(part, given, weight),
+            None => None,
         },
         None => None,
     }
@@ -259,7 +276,7 @@ pub fn read_releaser_line(
     given: &List<PartSetting>,
     fields: &[Bytes],
 ) -> Result<ReleaserReading, LineError>
-    ensures { Gives (λ r. r) result (read_unless_barred (releaser_bars part.now given.now) releaser_names releaser_bare fields.now) }
+    ensures { Gives (λ r. r) result (line_by_words part.now given.now fields.now) }
 {
     match barred(part, given.as_slice(), fields) {
         Some(fault) => Err(LineError::Fault(fault)),

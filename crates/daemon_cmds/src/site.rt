@@ -1,28 +1,51 @@
 //! Reading site.conf.
 
 ghost use Rattle.std.specs.List.{All};
-ghost use Rattle.std.specs.Prelude.{◌≡◌, ◌≤◌, ◌<◌, ℕ, length, List as Seq, OnOk, IfOk, codes, unwrap_or};
-ghost use Rattle.site_text.specs.Files.{FileAnswers};
+ghost use Rattle.std.specs.Prelude.{◌≡◌, ◌≤◌, ◌<◌, ℕ, length, List as Seq, OnOk, IfOk, unwrap_or};
+ghost use Rattle.site_text.specs.FileRules.{FileAnswers, no_section};
 ghost use Rattle.site_text.specs.OneMeaning.{SaysOneThing};
-ghost use Rattle.site_text.specs.Plain.{no_section};
 ghost use Rattle.daemon_cmds.specs.declared.site_conf.SiteReading.{SiteReading};
-ghost use Rattle.daemon_cmds.specs.SiteTold.{site_line, SiteLineSays, SiteLineWrong, KnowsSite, TellsSite};
+ghost use Rattle.daemon_cmds.specs.SiteTold.{TellsSite, default_name};
+ghost use Rattle.daemon_cmds.specs.SiteRules.{SiteLineSays, SiteLineWrong};
+ghost use Rattle.daemon_cmds.specs.SiteSteps.{site_line, KnowsSite, with_site_reading};
 
 use crate::site_conf::{SiteConf, SiteReading, SiteSoFar};
 use crate::site_lines::read_site_line;
-use site_text::{
-    Bytes, CommandFile, ConfError, Line, LineError, List, each_text_says_one_thing, read_file,
-};
+use base::{Bytes, List};
+use site_text::{CommandFile, ConfError, Line, LineError, each_text_says_one_thing, read_file};
 use std::alloc::{AllocError, Global};
+
+/// The defaults: of the cache in bytes, of the marks in percent of it.
+const DEFAULT_CACHE: u64 = 1 << 26;
+
+const DEFAULT_HIGH: u32 = 80;
+
+const DEFAULT_LOW: u32 = 70;
+
+/// One line told this too.
+fn add_reading(known: &mut SiteSoFar, reading: SiteReading) -> Result<(), AllocError>
+    ensures { OnOk result (known.new ≡ with_site_reading known.old reading) }
+{
+    match reading {
+        SiteReading::FileSystem(name) => known.name = Some(name),
+        SiteReading::Cache(size) => known.cache = Some(size),
+        SiteReading::High(mark) => known.high = Some(mark),
+        SiteReading::Low(mark) => known.low = Some(mark),
+        SiteReading::Library(library) => known.libraries.push(library)?,
+        SiteReading::Volume(volume) => known.volumes.push(volume)?,
+    }
+    Ok(())
+}
 
 #[derive(Drop)]
 struct SiteFile;
 
 impl CommandFile for SiteFile {
-    ghost use Rattle.site_text.specs.Plain.{no_section, no_words};
-    ghost use Rattle.daemon_cmds.specs.SiteTold.{site_line, site_so_far, SiteLineSays, SiteLineWrong, KnowsSite};
-    ghost use Rattle.daemon_cmds.specs.SiteLines.{site_bars, site_names};
-    ghost use Rattle.daemon_cmds.specs.BarredLaws.{barred_said, barred_wrong, barred_read, barred_refused};
+    ghost use Rattle.site_text.specs.FileRules.{no_section};
+    ghost use Rattle.site_text.specs.Directives.{no_words};
+    ghost use Rattle.daemon_cmds.specs.SiteRules.{SiteLineSays, SiteLineWrong, site_bars, site_forms};
+    ghost use Rattle.daemon_cmds.specs.SiteSteps.{site_line, KnowsSite};
+    ghost use Rattle.daemon_cmds.specs.BarLaws.{barred_said, barred_wrong, barred_read, barred_refused};
 
     type Reading = SiteReading;
 
@@ -59,29 +82,21 @@ impl CommandFile for SiteFile {
     }
 
     fn add(&self, known: &mut SiteSoFar, reading: SiteReading) -> Result<(), AllocError> {
-        match reading {
-            SiteReading::FileSystem(name) => known.name = Some(name),
-            SiteReading::Cache(size) => known.cache = Some(size),
-            SiteReading::High(mark) => known.high = Some(mark),
-            SiteReading::Low(mark) => known.low = Some(mark),
-            SiteReading::Library(library) => known.libraries.push(library)?,
-            SiteReading::Volume(volume) => known.volumes.push(volume)?,
-        }
-        Ok(())
+        add_reading(known, reading)
     }
 
     fn open_section(&self, _known: &SiteSoFar) -> Option<u32> {
         None
     }
 
-    ghost reads_what_is_said = { λ file before line reading. (barred_said (site_bars (site_so_far before)) (site_names (site_so_far before)) no_words line.fields reading, barred_read (site_bars (site_so_far before)) (site_names (site_so_far before)) no_words line.fields reading) };
+    ghost reads_what_is_said = { λ file before line reading. (barred_said (site_bars before) (site_forms before) no_words line.fields reading, barred_read (site_bars before) (site_forms before) no_words line.fields reading) };
 
-    ghost refuses_what_is_wrong = { λ file before line fault. (barred_wrong (site_bars (site_so_far before)) (site_names (site_so_far before)) no_words line.fields fault, barred_refused (site_bars (site_so_far before)) (site_names (site_so_far before)) no_words line.fields fault) };
+    ghost refuses_what_is_wrong = { λ file before line fault. (barred_wrong (site_bars before) (site_forms before) no_words line.fields fault, barred_refused (site_bars before) (site_forms before) no_words line.fields fault) };
 }
 
 /// The name of the file system where none is given.
 fn named_or_default(alloc: Global, name: Option<Bytes>) -> Result<Bytes, AllocError>
-    ensures { IfOk result (λ n. n ≡ unwrap_or name (codes "samfs1")) }
+    ensures { IfOk result (λ n. n ≡ unwrap_or name default_name) }
 {
     match name {
         Some(name) => Ok(name),
@@ -103,9 +118,9 @@ fn with_defaults(alloc: Global, known: SiteSoFar) -> Result<SiteConf, AllocError
     } = known;
     Ok(SiteConf {
         name: named_or_default(alloc, name)?,
-        cache: cache.unwrap_or(67_108_864),
-        high: high.unwrap_or(80),
-        low: low.unwrap_or(70),
+        cache: cache.unwrap_or(DEFAULT_CACHE),
+        high: high.unwrap_or(DEFAULT_HIGH),
+        low: low.unwrap_or(DEFAULT_LOW),
         libraries,
         volumes,
     })

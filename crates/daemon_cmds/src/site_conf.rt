@@ -2,7 +2,7 @@
 
 ghost use Rattle.std.specs.Prelude.{◌≡◌, IfOk};
 
-use site_text::{Bytes, List};
+use base::{Bytes, List};
 use std::alloc::AllocError;
 
 /// A library of the site.

@@ -1,24 +1,34 @@
 //! The lines of site.conf.
 
-ghost use Rattle.std.specs.Prelude.{◌≡◌, ◌<◌, length, position, IfSome, Ok, Err, map};
-ghost use Rattle.std.specs.List.{list_any};
-ghost use Rattle.std.specs.Str.{bytes_eq};
+ghost use Rattle.std.specs.Prelude.{◌≡◌, ◌<◌, length, position, IfSome};
 ghost use Rattle.site_text.specs.Fields.{Gives, map_read};
 ghost use Rattle.site_text.specs.Words.{named};
-ghost use Rattle.site_text.specs.Forms.{read_form};
-ghost use Rattle.site_text.specs.Directives.{read_directive};
-ghost use Rattle.site_text.specs.Kinds.{name_field};
-ghost use Rattle.daemon_cmds.specs.Barred.{barred, read_unless_barred};
-ghost use Rattle.site_text.specs.Plain.{no_words};
-ghost use Rattle.daemon_cmds.specs.SiteLines.{site_directives, library_place, new_library, known_library, new_vsn, low_above, above_high, high_value, low_value, site_form, site_names, site_bar, site_bars};
+ghost use Rattle.site_text.specs.FormSteps.{read_form};
+ghost use Rattle.site_text.specs.DirectiveSteps.{read_by};
+ghost use Rattle.daemon_cmds.specs.BarSteps.{barred_by};
+ghost use Rattle.daemon_cmds.specs.SiteRules.{library_place, new_library, known_library, has_vsn, new_vsn, low_above, above_high, high_value, low_value};
+ghost use Rattle.daemon_cmds.specs.SiteSteps.{site_words, form_of, bar_of, form_by_word, bar_by_word, none_by_word, line_by_words};
 ghost use Rattle.daemon_cmds.specs.declared.site_lines.SiteDirective.TheVariants as directives;
 
 use crate::site_conf::{Library, SiteReading, SiteSoFar, Volume};
+use base::Bytes;
 use site_text::{
-    Bytes, ConfFault, Fields, LineError, find_word, is_media, is_name, multiple_value,
-    number_value, refuse_if, value_line,
+    ConfFault, Fields, LineError, find_word, is_media, is_name, multiple_value, number_value,
+    refuse_if, value_line,
 };
 use std::alloc::Global;
+
+/// The limit on the size of a cache, in bytes.
+const MOST_CACHE: u64 = 1 << 36;
+
+/// The limit on the capacity of a volume, in bytes.
+const MOST_CAPACITY: u64 = 1 << 45;
+
+/// The limit on the number of libraries.
+const MOST_LIBRARIES: usize = 64;
+
+/// The limit on the number of volumes.
+const MOST_VOLUMES: usize = 1024;
 
 /// A directive of site.conf.
 #[derive(Clone, Copy, PartialEq, Eq)]
@@ -41,7 +51,7 @@ const DIRECTIVES: [(&[u8], SiteDirective); 6] = [
 ];
 
 fn directive_named(name: &[u8]) -> Option<SiteDirective>
-    ensures { result ≡ named site_directives name.now }
+    ensures { result ≡ named site_words name.now }
 {
     find_word(&DIRECTIVES, name)
 }
@@ -55,12 +65,12 @@ pub fn library_place(libraries: &[Library], name: &[u8]) -> Option<usize>
 }
 
 fn has_vsn(volumes: &[Volume], vsn: &[u8]) -> bool
-    ensures { result ≡ list_any (λ v. bytes_eq v.vsn vsn.now) volumes.now }
+    ensures { result ≡ has_vsn volumes.now vsn.now }
 {
     volumes.iter().any(|v| v.vsn.as_slice() == vsn)
 }
 
-#[tactic(auto, unfolding(crate::specs::SiteLines::new_library))]
+#[tactic(auto, unfolding(crate::specs::SiteRules::new_library))]
 fn new_library<'a>(libraries: &[Library], name: &'a [u8]) -> Result<&'a [u8], ConfFault>
     ensures { map_read (λ n. n.now) result ≡ new_library libraries.now name.now }
 {
@@ -72,7 +82,7 @@ fn new_library<'a>(libraries: &[Library], name: &'a [u8]) -> Result<&'a [u8], Co
     Ok(name)
 }
 
-#[tactic(auto, unfolding(crate::specs::SiteLines::known_library))]
+#[tactic(auto, unfolding(crate::specs::SiteRules::known_library))]
 fn known_library(libraries: &[Library], name: &[u8]) -> Result<usize, ConfFault>
     ensures { result ≡ known_library libraries.now name.now }
 {
@@ -80,7 +90,7 @@ fn known_library(libraries: &[Library], name: &[u8]) -> Result<usize, ConfFault>
     library_place(libraries, name).ok_or(ConfFault::Conflict)
 }
 
-#[tactic(auto, unfolding(crate::specs::SiteLines::new_vsn))]
+#[tactic(auto, unfolding(crate::specs::SiteRules::new_vsn))]
 fn new_vsn<'a>(volumes: &[Volume], vsn: &'a [u8]) -> Result<&'a [u8], ConfFault>
     ensures { map_read (λ n. n.now) result ≡ new_vsn volumes.now vsn.now }
 {
@@ -108,7 +118,7 @@ fn above_high(high: Option<u32>, low: u32) -> bool
 }
 
 /// A high mark, which may not be below the low mark where one is given.
-#[tactic(auto, unfolding(crate::specs::SiteLines::high_value))]
+#[tactic(auto, unfolding(crate::specs::SiteRules::high_value))]
 fn high_value(low: Option<u32>, field: &[u8]) -> Result<u32, ConfFault>
     ensures { result ≡ high_value low field.now }
 {
@@ -118,7 +128,7 @@ fn high_value(low: Option<u32>, field: &[u8]) -> Result<u32, ConfFault>
 }
 
 /// A low mark, which may not be above the high mark where one is given.
-#[tactic(auto, unfolding(crate::specs::SiteLines::low_value))]
+#[tactic(auto, unfolding(crate::specs::SiteRules::low_value))]
 fn low_value(high: Option<u32>, field: &[u8]) -> Result<u32, ConfFault>
     ensures { result ≡ low_value high field.now }
 {
@@ -132,7 +142,7 @@ fn file_system_line(
     known: &SiteSoFar,
     values: Fields,
 ) -> Result<SiteReading, LineError>
-    ensures { Gives (λ r. r) result (read_form (site_form known.now directives.FileSystem) values.entry) }
+    ensures { Gives (λ r. r) result (read_form (form_of known.now directives.FileSystem) values.entry) }
 {
     let mut values = values;
     let name = values.next()?;
@@ -144,17 +154,17 @@ fn file_system_line(
 }
 
 fn cache_line(known: &SiteSoFar, values: Fields) -> Result<SiteReading, ConfFault>
-    ensures { result ≡ read_form (site_form known.now directives.Cache) values.entry }
+    ensures { result ≡ read_form (form_of known.now directives.Cache) values.entry }
 {
     let mut values = values;
     let size = values.next()?;
-    let size = multiple_value(4096, 4096, 68_719_476_736, size)?;
+    let size = multiple_value(4096, 4096, MOST_CACHE, size)?;
     values.end()?;
     Ok(SiteReading::Cache(size))
 }
 
 fn high_line(known: &SiteSoFar, values: Fields) -> Result<SiteReading, ConfFault>
-    ensures { result ≡ read_form (site_form known.now directives.High) values.entry }
+    ensures { result ≡ read_form (form_of known.now directives.High) values.entry }
 {
     let mut values = values;
     let mark = values.next()?;
@@ -164,7 +174,7 @@ fn high_line(known: &SiteSoFar, values: Fields) -> Result<SiteReading, ConfFault
 }
 
 fn low_line(known: &SiteSoFar, values: Fields) -> Result<SiteReading, ConfFault>
-    ensures { result ≡ read_form (site_form known.now directives.Low) values.entry }
+    ensures { result ≡ read_form (form_of known.now directives.Low) values.entry }
 {
     let mut values = values;
     let mark = values.next()?;
@@ -174,7 +184,7 @@ fn low_line(known: &SiteSoFar, values: Fields) -> Result<SiteReading, ConfFault>
 }
 
 fn library_line(alloc: Global, known: &SiteSoFar, values: Fields) -> Result<SiteReading, LineError>
-    ensures { Gives (λ r. r) result (read_form (site_form known.now directives.Library) values.entry) }
+    ensures { Gives (λ r. r) result (read_form (form_of known.now directives.Library) values.entry) }
 {
     let mut values = values;
     let name = values.next()?;
@@ -187,7 +197,7 @@ fn library_line(alloc: Global, known: &SiteSoFar, values: Fields) -> Result<Site
 }
 
 fn volume_line(alloc: Global, known: &SiteSoFar, values: Fields) -> Result<SiteReading, LineError>
-    ensures { Gives (λ r. r) result (read_form (site_form known.now directives.Volume) values.entry) }
+    ensures { Gives (λ r. r) result (read_form (form_of known.now directives.Volume) values.entry) }
 {
     let mut values = values;
     let library = values.next()?;
@@ -199,7 +209,7 @@ fn volume_line(alloc: Global, known: &SiteSoFar, values: Fields) -> Result<SiteR
     let vsn = values.next()?;
     let vsn = new_vsn(known.volumes.as_slice(), vsn)?;
     let capacity = values.next()?;
-    let capacity = multiple_value(512, 512, 35_184_372_088_832, capacity)?;
+    let capacity = multiple_value(512, 512, MOST_CAPACITY, capacity)?;
     values.end()?;
     let media = Bytes::from_slice(alloc, media)?;
     let vsn = Bytes::from_slice(alloc, vsn)?;
@@ -214,21 +224,21 @@ fn volume_line(alloc: Global, known: &SiteSoFar, values: Fields) -> Result<SiteR
 /// Why the directive may not stand here, whatever its values are, if so: `Duplicate` for a second one of those that stand once,
 /// `TooMany` for a library behind 64 others and a volume behind 1,024.
 fn site_bar(known: &SiteSoFar, directive: SiteDirective) -> Option<ConfFault>
-    ensures { result ≡ site_bar known.now directive }
+    ensures { result ≡ bar_of known.now directive }
 {
     let (barred, fault) = match directive {
         SiteDirective::FileSystem => (known.name.is_some(), ConfFault::Duplicate),
         SiteDirective::Cache => (known.cache.is_some(), ConfFault::Duplicate),
         SiteDirective::High => (known.high.is_some(), ConfFault::Duplicate),
         SiteDirective::Low => (known.low.is_some(), ConfFault::Duplicate),
-        SiteDirective::Library => (known.libraries.len() >= 64, ConfFault::TooMany),
-        SiteDirective::Volume => (known.volumes.len() >= 1024, ConfFault::TooMany),
+        SiteDirective::Library => (known.libraries.len() >= MOST_LIBRARIES, ConfFault::TooMany),
+        SiteDirective::Volume => (known.volumes.len() >= MOST_VOLUMES, ConfFault::TooMany),
     };
     if barred { Some(fault) } else { None }
 }
 
 fn barred(known: &SiteSoFar, fields: &[Bytes]) -> Option<ConfFault>
-    ensures { result ≡ barred (site_bars known.now) fields.now }
+    ensures { result ≡ barred_by (bar_by_word known.now) fields.now }
 {
     match value_line(fields) {
         Some((name, _)) => match directive_named(name) {
@@ -239,9 +249,9 @@ fn barred(known: &SiteSoFar, fields: &[Bytes]) -> Option<ConfFault>
     }
 }
 
-#[tactic(auto, unfolding(site_text::specs::Directives::form_at))]
+#[tactic(auto, unfolding(site_text::specs::DirectiveSteps::form_by))]
 fn read_values(alloc: Global, known: &SiteSoFar, fields: &[Bytes]) -> Result<SiteReading, LineError>
-    ensures { Gives (λ r. r) result (read_directive (site_names known.now) no_words fields.now) }
+    ensures { Gives (λ r. r) result (read_by (form_by_word known.now) none_by_word fields.now) }
 {
     let [_, ..] = fields else {
         return Err(LineError::Fault(ConfFault::MissingField));
@@ -269,7 +279,7 @@ pub fn read_site_line(
     known: &SiteSoFar,
     fields: &[Bytes],
 ) -> Result<SiteReading, LineError>
-    ensures { Gives (λ r. r) result (read_unless_barred (site_bars known.now) (site_names known.now) no_words fields.now) }
+    ensures { Gives (λ r. r) result (line_by_words known.now fields.now) }
 {
     match barred(known, fields) {
         Some(fault) => Err(LineError::Fault(fault)),

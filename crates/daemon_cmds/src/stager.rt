@@ -1,17 +1,17 @@
 //! Reading stager.cmd.
 
-ghost use Rattle.std.specs.Prelude.{◌≡◌, ◌∷◌, [], ◌≤◌, ℕ, List as Seq, length, map, IfOk};
-ghost use Rattle.site_text.specs.Files.{FileAnswers};
+ghost use Rattle.std.specs.Prelude.{◌≡◌, ◌≤◌, ℕ, List as Seq, length, map, IfOk};
+ghost use Rattle.site_text.specs.FileRules.{FileAnswers, no_section};
 ghost use Rattle.site_text.specs.OneMeaning.{SaysOneThing};
-ghost use Rattle.site_text.specs.Plain.{no_section};
-ghost use Rattle.daemon_cmds.specs.StagerTold.{stager_line, StagerLineSays, StagerLineWrong, TellsStager};
+ghost use Rattle.daemon_cmds.specs.StagerTold.{TellsStager, default_copysel};
+ghost use Rattle.daemon_cmds.specs.StagerRules.{StagerLineSays, StagerLineWrong};
+ghost use Rattle.daemon_cmds.specs.StagerSteps.{stager_line, with_stager_reading};
 
 use crate::site_conf::{Library, SiteConf};
 use crate::stager_conf::{StagerConf, StagerReading};
 use crate::stager_lines::read_stager_line;
-use site_text::{
-    CommandFile, ConfError, Line, LineError, List, each_text_says_one_thing, read_file,
-};
+use base::List;
+use site_text::{CommandFile, ConfError, Line, LineError, each_text_says_one_thing, read_file};
 use std::alloc::{AllocError, Global};
 
 /// The drives of each library.
@@ -25,8 +25,11 @@ fn drives_of(alloc: Global, libraries: &[Library]) -> Result<List<u32>, AllocErr
     Ok(drives)
 }
 
-fn usual_copysel(alloc: Global) -> Result<List<u8>, AllocError>
-    ensures { IfOk result (λ c. c ≡ 1 ∷ 2 ∷ 3 ∷ 4 ∷ []) }
+/// The limit on the stage queue where none is given.
+const DEFAULT_MAXACTIVE: u32 = 4000;
+
+fn default_copysel(alloc: Global) -> Result<List<u8>, AllocError>
+    ensures { IfOk result (λ c. c ≡ default_copysel) }
 {
     let mut copies = List::new(alloc);
     copies.push(1)?;
@@ -36,15 +39,33 @@ fn usual_copysel(alloc: Global) -> Result<List<u8>, AllocError>
     Ok(copies)
 }
 
+/// One line told this too.
+fn add_reading(known: &mut StagerConf, reading: StagerReading)
+    ensures { known.new ≡ with_stager_reading known.old reading }
+{
+    match reading {
+        StagerReading::Drives(library, drives) => {
+            if library < known.drives.len() {
+                known.drives.set(library, drives)
+            }
+        }
+        StagerReading::MaxActive(most) => known.maxactive = most,
+        StagerReading::CopySel(copies) => known.copysel = copies,
+        StagerReading::Nothing => {}
+    }
+}
+
 #[derive(Drop)]
 struct StagerFile<'a> {
     site: &'a SiteConf,
 }
 
 impl CommandFile for StagerFile<'_> {
-    ghost use Rattle.site_text.specs.Plain.{no_section, no_words};
-    ghost use Rattle.daemon_cmds.specs.StagerTold.{stager_line, StagerLineSays, StagerLineWrong, TellsStager};
-    ghost use Rattle.daemon_cmds.specs.StagerLines.{stager_names};
+    ghost use Rattle.site_text.specs.FileRules.{no_section};
+    ghost use Rattle.site_text.specs.Directives.{no_words};
+    ghost use Rattle.daemon_cmds.specs.StagerTold.{TellsStager};
+    ghost use Rattle.daemon_cmds.specs.StagerRules.{stager_forms, StagerLineSays, StagerLineWrong};
+    ghost use Rattle.daemon_cmds.specs.StagerSteps.{stager_line};
     ghost use Rattle.site_text.proofs.FormLaws.{directive_said, directive_wrong, directive_read, directive_refused};
 
     type Reading = StagerReading;
@@ -64,8 +85,8 @@ impl CommandFile for StagerFile<'_> {
     fn start(&self, alloc: Global) -> Result<StagerConf, AllocError> {
         Ok(StagerConf {
             drives: drives_of(alloc, self.site.libraries.as_slice())?,
-            maxactive: 4000,
-            copysel: usual_copysel(alloc)?,
+            maxactive: DEFAULT_MAXACTIVE,
+            copysel: default_copysel(alloc)?,
         })
     }
 
@@ -83,16 +104,7 @@ impl CommandFile for StagerFile<'_> {
     }
 
     fn add(&self, known: &mut StagerConf, reading: StagerReading) -> Result<(), AllocError> {
-        match reading {
-            StagerReading::Drives(library, drives) => {
-                if library < known.drives.len() {
-                    known.drives.set(library, drives)
-                }
-            }
-            StagerReading::MaxActive(most) => known.maxactive = most,
-            StagerReading::CopySel(copies) => known.copysel = copies,
-            StagerReading::Nothing => {}
-        }
+        add_reading(known, reading);
         Ok(())
     }
 
@@ -100,9 +112,9 @@ impl CommandFile for StagerFile<'_> {
         None
     }
 
-    ghost reads_what_is_said = { λ file before line reading. (directive_said (stager_names file.site.now.libraries) no_words line.fields reading, directive_read (stager_names file.site.now.libraries) no_words line.fields reading) };
+    ghost reads_what_is_said = { λ file before line reading. (directive_said (stager_forms file.site.now.libraries) no_words line.fields reading, directive_read (stager_forms file.site.now.libraries) no_words line.fields reading) };
 
-    ghost refuses_what_is_wrong = { λ file before line fault. (directive_wrong (stager_names file.site.now.libraries) no_words line.fields fault, directive_refused (stager_names file.site.now.libraries) no_words line.fields fault) };
+    ghost refuses_what_is_wrong = { λ file before line fault. (directive_wrong (stager_forms file.site.now.libraries) no_words line.fields fault, directive_refused (stager_forms file.site.now.libraries) no_words line.fields fault) };
 }
 
 /// What a text of stager.cmd says in this site, or its first wrong line and what is wrong with it. An empty text says that all

@@ -1,11 +1,12 @@
 //! What stager.cmd says.
 
-use site_text::List;
+use base::List;
 
 /// How files are staged.
 #[derive(Drop)]
 pub struct StagerConf {
-    /// For each library of the site, in its order: how many of its drives stage files, 0 to 64. With 0 no file is staged from it.
+    /// For each library of the site, in its order: the drives given for it, 0 to 64, or all that it has. Only 0 has an effect: no file
+    /// is staged from that library.
     pub drives: List<u32>,
     /// How many files the stage queue holds at most, 1 to 65,536.
     pub maxactive: u32,

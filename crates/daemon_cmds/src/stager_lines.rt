@@ -1,19 +1,19 @@
 //! The lines of stager.cmd.
 
-ghost use Rattle.std.specs.Prelude.{◌≡◌, ◌<◌, ◌==◌, length, position, count_by, IfSome, OnOk, IfOk};
+ghost use Rattle.std.specs.Prelude.{◌≡◌, ◌<◌, length, position, IfSome, OnOk};
 ghost use Rattle.site_text.specs.Fields.{Gives};
 ghost use Rattle.site_text.specs.Words.{named};
-ghost use Rattle.site_text.specs.Forms.{read_form};
-ghost use Rattle.site_text.specs.Directives.{read_directive};
-ghost use Rattle.site_text.specs.Plain.{no_words};
-ghost use Rattle.daemon_cmds.specs.StagerLines.{stager_directives, library_value, is_colon, copy_number, copy_numbers, at_most_once, none_twice, with_copy, completed, copysel_value, stager_form, stager_names};
+ghost use Rattle.site_text.specs.FormSteps.{read_form};
+ghost use Rattle.daemon_cmds.specs.StagerRules.{library_value, is_colon, copy_number, copy_numbers, at_most_once, none_twice, completed, copysel_value};
+ghost use Rattle.daemon_cmds.specs.StagerSteps.{stager_words, with_copy, form_of, line_by_words};
 ghost use Rattle.daemon_cmds.specs.declared.stager_lines.StagerDirective.TheVariants as directives;
 
 use crate::site_conf::Library;
 use crate::site_lines::library_place;
 use crate::stager_conf::StagerReading;
+use base::{Bytes, List};
 use site_text::{
-    Bytes, ConfFault, Fields, LineError, List, cut_at, find_word, number_value, read_ignored,
+    ConfFault, Fields, LineError, cut_at, find_word, number_value, read_ignored,
     read_number_within, refuse_if, value_line,
 };
 use std::alloc::{AllocError, Global};
@@ -37,12 +37,12 @@ const DIRECTIVES: [(&[u8], StagerDirective); 6] = [
 ];
 
 fn directive_named(name: &[u8]) -> Option<StagerDirective>
-    ensures { result ≡ named stager_directives name.now }
+    ensures { result ≡ named stager_words name.now }
 {
     find_word(&DIRECTIVES, name)
 }
 
-#[tactic(auto, unfolding(crate::specs::StagerLines::library_value))]
+#[tactic(auto, unfolding(crate::specs::StagerRules::library_value))]
 fn library_value(libraries: &[Library], name: &[u8]) -> Result<usize, ConfFault>
     ensures { result ≡ library_value libraries.now name.now }
 {
@@ -59,7 +59,7 @@ fn first_colon(text: &[u8]) -> Option<usize>
     text.iter().position(|b| *b == b':')
 }
 
-#[tactic(auto, unfolding(crate::specs::StagerLines::copy_number))]
+#[tactic(auto, unfolding(crate::specs::StagerRules::copy_number))]
 fn copy_number(field: &[u8]) -> Result<u8, ConfFault>
     ensures { result ≡ copy_number field.now }
 {
@@ -96,7 +96,7 @@ fn at_most_once(copy: u8, copies: &[u8]) -> bool
     copies.iter().filter(|c| **c == copy).count() <= 1
 }
 
-#[tactic(auto, unfolding(crate::specs::StagerLines::none_twice))]
+#[tactic(auto, unfolding(crate::specs::StagerRules::none_twice))]
 fn none_twice(copies: &[u8]) -> bool
     ensures { result ≡ none_twice copies.now }
 {
@@ -116,7 +116,7 @@ fn add_copy(copies: &mut List<u8>, copy: u8) -> Result<(), AllocError>
 }
 
 /// Puts those of 1 to 4 that are not there behind the others, in order.
-#[tactic(auto, unfolding(crate::specs::StagerLines::completed))]
+#[tactic(auto, using(crate::proofs::CopyOrder::all_put))]
 fn complete(copies: &mut List<u8>) -> Result<(), AllocError>
     ensures { OnOk result (copies.new ≡ completed copies.old) }
 {
@@ -128,7 +128,7 @@ fn complete(copies: &mut List<u8>) -> Result<(), AllocError>
 
 /// The order of copies that `A:B:..` says: the copies that are named, and the others behind them. `BadValue` where it does not
 /// name 1 to 4 distinct numbers of 1 to 4.
-#[tactic(auto, unfolding(crate::specs::StagerLines::copysel_value))]
+#[tactic(auto, unfolding(crate::specs::StagerRules::copysel_value))]
 fn copysel_value(alloc: Global, field: &[u8]) -> Result<List<u8>, LineError>
     ensures { Gives (λ copies. copies) result (copysel_value field.now) }
 {
@@ -139,7 +139,7 @@ fn copysel_value(alloc: Global, field: &[u8]) -> Result<List<u8>, LineError>
 }
 
 fn drives_line(libraries: &[Library], values: Fields) -> Result<StagerReading, ConfFault>
-    ensures { result ≡ read_form (stager_form libraries.now directives.Drives) values.entry }
+    ensures { result ≡ read_form (form_of libraries.now directives.Drives) values.entry }
 {
     let mut values = values;
     let name = values.next()?;
@@ -151,7 +151,7 @@ fn drives_line(libraries: &[Library], values: Fields) -> Result<StagerReading, C
 }
 
 fn maxactive_line(libraries: &[Library], values: Fields) -> Result<StagerReading, ConfFault>
-    ensures { result ≡ read_form (stager_form libraries.now directives.MaxActive) values.entry }
+    ensures { result ≡ read_form (form_of libraries.now directives.MaxActive) values.entry }
 {
     let mut values = values;
     let most = values.next()?;
@@ -165,7 +165,7 @@ fn copysel_line(
     libraries: &[Library],
     values: Fields,
 ) -> Result<StagerReading, LineError>
-    ensures { Gives (λ r. r) result (read_form (stager_form libraries.now directives.CopySel) values.entry) }
+    ensures { Gives (λ r. r) result (read_form (form_of libraries.now directives.CopySel) values.entry) }
 {
     let mut values = values;
     let order = values.next()?;
@@ -175,13 +175,13 @@ fn copysel_line(
 }
 
 /// What a line says, in a site with these libraries.
-#[tactic(auto, unfolding(site_text::specs::Directives::form_at))]
+#[tactic(auto, unfolding(site_text::specs::DirectiveSteps::form_by))]
 pub fn read_stager_line(
     alloc: Global,
     libraries: &[Library],
     fields: &[Bytes],
 ) -> Result<StagerReading, LineError>
-    ensures { Gives (λ r. r) result (read_directive (stager_names libraries.now) no_words fields.now) }
+    ensures { Gives (λ r. r) result (line_by_words libraries.now fields.now) }
 {
     let [_, ..] = fields else {
         return Err(LineError::Fault(ConfFault::MissingField));

@@ -1,7 +1,7 @@
-//! What no clause says: that the calls succeed, and tables made by hand from the forms of the four files. Each text is read by the
-//! reader and by the plain slow one.
+//! What no clause says: that the calls succeed, and tables made by hand from the forms of the four files.
 
-use site_text::{Bytes, ConfError, ConfFault, ConfRefusal};
+use base::Bytes;
+use site_text::{ConfError, ConfFault, ConfRefusal};
 use std::alloc::{AllocError, Global};
 
 mod recycler;

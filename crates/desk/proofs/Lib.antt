@@ -5,3 +5,4 @@ pub mod MadeBytes
 pub mod WordCuts
 pub mod WordLaws
 pub mod LineLaws
+pub mod BadJournals

@@ -5,8 +5,8 @@ ghost use Rattle.std.specs.List.{flat_map};
 ghost use Rattle.desk.specs.Texts.{words, ended};
 ghost use Rattle.desk.specs.Words.{word_text};
 
+use base::Bytes;
 use itoa::Buffer;
-use site_text::Bytes;
 use std::alloc::AllocError;
 
 /// A word of an answer.

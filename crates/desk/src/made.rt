@@ -3,8 +3,8 @@
 ghost use Rattle.std.specs.Prelude.{◌≡◌, ◌<◌, ◌^◌, IfOk, MatchResult};
 ghost use Rattle.desk.specs.Asks.{made_bytes};
 
+use base::Bytes;
 use records::LineRefusal;
-use site_text::Bytes;
 use std::alloc::{AllocError, Global};
 
 /// At most so many bytes are made: one more than the longest file has.

@@ -6,8 +6,8 @@ ghost use Rattle.desk.specs.Texts.{words, ended, lines_of, text_of, daemon_text,
 use crate::line::{Word, write_line};
 use crate::names::{cause_text, daemon_text, file_text, rule_text, vsn_text};
 use crate::reports::{write_report, write_summary};
+use base::Bytes;
 use records::{CommandFile, Daemon, LineRefusal, Reply, Vsn};
-use site_text::Bytes;
 use std::alloc::{AllocError, Global};
 
 #[tactic(auto, unfolding(crate::specs::Texts::ended))]

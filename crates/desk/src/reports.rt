@@ -5,8 +5,8 @@ ghost use Rattle.desk.specs.Texts.{words, ended, file_line, volume_line, set_lin
 
 use crate::line::{Word, write_line};
 use crate::names::{flags_text, key_text, state_text, truth_text};
+use base::Bytes;
 use records::{FileRow, QueueRow, SetRow, SummaryRow, VolumeRow};
-use site_text::Bytes;
 use std::alloc::AllocError;
 
 /// A row of a report.

@@ -4,8 +4,9 @@ ghost use Rattle.std.specs.Prelude.{◌≡◌, ◌≤◌, ◌<◌, ℕ, List as 
 ghost use Rattle.std.specs.List.{position_or_len};
 ghost use Rattle.desk.specs.Forms.{is_blank, is_of_word, from_word, first_word, after_word, Reads, word_at, number_at, size_at, rest_of, end_at};
 
+use base::Bytes;
 use records::LineRefusal;
-use site_text::{Bytes, read_number_within, read_size};
+use site_text::{read_number_within, read_size};
 use std::alloc::Global;
 use std::marker::Model;
 

@@ -1,11 +1,12 @@
 //! Lines and answers written out by hand.
 
+use base::{Bytes, List};
 use desk::{is_skipped, read_line, write_reply};
 use records::{
     Asked, CommandFile, Daemon, Event, FileRow, FileState, IdleCause, LineRefusal, Reply, Rule,
     SetRow, SummaryRow, VolumeRow, Vsn,
 };
-use site_text::{Bytes, ConfFault, List};
+use site_text::ConfFault;
 use std::alloc::{AllocError, Global};
 
 fn writes(alloc: Global, reply: &Reply, wanted: &[u8]) -> bool {

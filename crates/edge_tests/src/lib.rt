@@ -1,6 +1,8 @@
-//! Tests of sources, sinks, folders, clocks and patterns, and of the lines of an input.
+//! Tests of sources, sinks, folders, clocks, patterns and the store on disk, and of the lines of an input.
 #![tactic(auto)]
 
+#[cfg(test)]
+mod disk;
 #[cfg(test)]
 mod lines;
 #[cfg(test)]

@@ -1,8 +1,8 @@
-//! The lines of hand-made texts, and the reader against the slow program.
+//! The lines of hand-made texts.
 
-use input::{LineRead, RawLine, Reader, next_line, plain_lines};
-use outside::{MemorySource, Source};
-use site_text::{Bytes, List};
+use base::{Bytes, List};
+use input::{LineRead, Reader, next_line};
+use outside::MemorySource;
 use std::alloc::{AllocError, Global};
 use std::test::Fail;
 
@@ -51,21 +51,6 @@ fn a_budget_and_a_fault_end_an_input(rt: HostRuntime) -> Result<(), Fail> {
     Ok(())
 }
 
-// Whether the reader gives the lines that the slow program gives.
-fn agrees<S: Source>(reader: &mut Reader, source: &mut S, lines: &[RawLine]) -> bool {
-    for line in lines {
-        let same = match (next_line(reader, source), line) {
-            (LineRead::Line, RawLine::Kept(bytes)) => bytes.as_slice() == reader.line(),
-            (LineRead::TooLong, RawLine::Long) => true,
-            _ => false,
-        };
-        if !same {
-            return false;
-        }
-    }
-    next_line(reader, source) == LineRead::Ended
-}
-
 // A text of so many letters with an end after them, and a further line.
 fn long_text(alloc: Global, letters: usize, end: &[u8]) -> Result<Vec<u8>, AllocError> {
     let mut text = vec![in alloc; 120; letters]?;
@@ -75,7 +60,7 @@ fn long_text(alloc: Global, letters: usize, end: &[u8]) -> Result<Vec<u8>, Alloc
 }
 
 #[test]
-fn the_reader_agrees_with_the_slow_program(rt: HostRuntime) -> Result<(), Fail> {
+fn a_line_of_more_than_4096_bytes_is_not_kept(rt: HostRuntime) -> Result<(), Fail> {
     for (letters, end, kept) in [
         (4096, b"\r\n".as_slice(), true),
         (4096, b"\n", true),
@@ -84,17 +69,20 @@ fn the_reader_agrees_with_the_slow_program(rt: HostRuntime) -> Result<(), Fail> 
         (70_000, b"\r\n", false),
     ] {
         let text = long_text(rt.alloc(), letters, end)?;
-        let lines = plain_lines(rt.alloc(), &text)?;
-        assert_eq!(rt;
-            matches!(lines.as_slice().first(), Some(RawLine::Kept(_))),
-            kept
-        );
         let mut source = source(rt.alloc(), &text, 1000, 0)?;
         let mut reader = Reader::new(rt.alloc(), 100_000)?;
-        assert!(rt;
-            agrees(&mut reader, &mut source, lines.as_slice()),
-            "{letters} letters"
-        );
+        let first = if kept {
+            LineRead::Line
+        } else {
+            LineRead::TooLong
+        };
+        assert_eq!(rt; next_line(&mut reader, &mut source), first);
+        if kept {
+            assert_eq!(rt; reader.line().len(), letters);
+        }
+        assert_eq!(rt; next_line(&mut reader, &mut source), LineRead::Line);
+        assert_eq!(rt; reader.line(), b"next".as_slice());
+        assert_eq!(rt; next_line(&mut reader, &mut source), LineRead::Ended);
     }
     Ok(())
 }

@@ -1,11 +1,11 @@
 //! What the objects in memory do at the calls that fail, and what the adapters answer.
 
+use base::{Bytes, List};
 use outside::{
     Clock, DiskFolder, Failed, Folder, FolderFault, LiteralPatterns, MemoryClock, MemoryFolder,
     MemorySink, MemorySource, NamedText, PatternFault, Patterns, Source, StandardInput,
     StandardOutput, SystemClock, write_all,
 };
-use site_text::{Bytes, List};
 use std::alloc::{AllocError, Global};
 use std::test::Fail;
 use std::{env, fs, process};

@@ -7,9 +7,9 @@ use Rattle.bank.proofs.Moments.{weakened}
 use Rattle.journal.specs.Records.{AllHold, IsBeforeOrAfter, end_of}
 use Rattle.site_history.specs.Site.{Site}
 use Rattle.site_history.specs.Steps.{HistoryStep, fields_after, effect}
-use Rattle.site_history.specs.Histories.{after, IsHistory}
+use Rattle.site_history.specs.Histories.{after, IsHistory, written_forms}
 use Rattle.site_history.specs.Worlds.{at}
-use Rattle.site_history.specs.Images.{extents, written_forms, Reads, ReadsAs}
+use Rattle.site_history.specs.Images.{extents, Reads, ReadsAs}
 use Rattle.site_history.specs.Pinned.{StandInAll, IsPinned}
 use Rattle.site_history.proofs.HistoryLaws.{after-push, history-push, journal_length-push, length-push}
 use Rattle.site_history.proofs.JournalLaws.{end_of-history}

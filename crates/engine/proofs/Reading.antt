@@ -1,67 +1,121 @@
--- What was read of a journal: a history, or where it is bad.
-use Rattle.std.proofs.Common.{◌≡◌, inl, inr, ℕ, ◌≤◌, List, ◌∷◌, ◌++◌, length, sym, ◌∙◌, ap, subst, arith}
+-- The records of a journal, made steps again one after another.
+use Rattle.std.proofs.Common.{◌≡◌, inl, inr, ℕ, ◌+◌, List, [], ◌∷◌, ◌++◌, length, length-append, replicate, refl, sym, ◌∙◌, ap, subst, arith, Bool}
+use Rattle.std.specs.Prelude.{IsTrue}
+use Rattle.std.proofs.lemmas.List.{length-replicate}
 use Rattle.bank.specs.Content.{Content}
-use Rattle.journal.specs.Records.{AreRecords, IsBadAt, end_of, IsRecord}
-use Rattle.journal.specs.Refusals.{IfBadRecord}
-use Rattle.journal.specs.declared.refusal.JournalRefusal.{JournalRefusal}
-use Rattle.journal.specs.declared.refusal.JournalRefusal.TheVariants.{BadRecord}
+use Rattle.bank.specs.View.{View, OnlyRead}
+use Rattle.journal.specs.Records.{IsRecord, AreRecords, HoldsRecords, IsEnd, end_of}
+use Rattle.journal.specs.Readers.{ReaderState, IsOver, IsFound, GoesOn}
+use Rattle.journal.specs.declared.reader.Found.{Found}
+use Rattle.journal.specs.declared.reader.Found.TheVariants.{Record, End, BadLength}
 use Rattle.journal.specs.State.{JournalState}
-use Rattle.journal.proofs.RecordLaws.{end-within}
-use Rattle.journal.proofs.Held.{records-front, records-back}
-use Rattle.site_history.specs.Images.{written_forms}
+use Rattle.journal.proofs.RecordLaws.{end-push, records-push}
+use Rattle.records.specs.declared.step.Step.{Step}
+use Rattle.records.specs.declared.step.StepKind.{StepKind}
+use Rattle.records.specs.declared.step.StepKind.TheVariants.{Put}
+use Rattle.records.specs.Written.{written}
+use Rattle.site_history.specs.Site.{Site, first_fields}
+use Rattle.site_history.specs.Steps.{HistoryStep, HasBytes}
+use Rattle.site_history.specs.Histories.{after, written_forms}
 use Rattle.site_history.specs.Journals.{IsBadJournal}
+use Rattle.site_history.proofs.HistoryLaws.{after-push, history-push}
+use Rattle.site_history.proofs.Commits.{written_forms-push}
 use Rattle.site_history.proofs.JournalLaws.{end_of-history}
 use Rattle.site_state.specs.declared.state.SiteState.{SiteState}
-use Rattle.site_state.specs.declared.replays.ReplayRefusal.{ReplayRefusal}
-use Rattle.site_state.specs.declared.replays.ReplayRefusal.TheVariants.{BadStep, NoMemory as Wanting}
-use Rattle.site_state.specs.Replays.{Replays, HasBadPayload, TellsPayloads}
-use Rattle.site_state.proofs.Replaying.{replayed_count}
-use Rattle.engine.specs.declared.engine.ShutCause.TheVariants.{BankFault, BadJournal, NoMemory}
-use Rattle.engine.specs.Journals.{TellsJournal, cause_of}
-use Rattle.engine.specs.Replayed.{IsReplayed}
+use Rattle.site_state.specs.Keeps.{Keeps}
+use Rattle.site_state.specs.Replays.{IsOfNoStep, IsReplayed as IsStepReplayed}
+use Rattle.engine.specs.Replayed.{IsReplayed, IsReadUpTo, IsReadToEnd}
 
--- a payload of no step that may come makes the journal bad where its record stands
-pub bad_step : (size : ℕ) (c : Content) (payloads : List (List ℕ)) (place : ℕ) → size ≤ 268435456 → AreRecords c 0 payloads size → HasBadPayload payloads place → IsBadJournal size c place
-bad_step size c payloads place small records bad =
-    let within : end_of 0 payloads ≤ size = end-within c 0 payloads size (omega arith) records in
-    let at : place ≡ end_of 0 (written_forms bad.steps) = bad.at (omega (arith, within, small)) in
-    let cut : AreRecords c 0 (written_forms bad.steps ++ bad.payload ∷ bad.behind) size = subst (λ (l : List (List ℕ)). AreRecords c 0 l size) bad.whole records in
-    record {
-      steps = bad.steps;
-      history = bad.history;
-      bad = inr (record {
-        before = records-front c 0 (written_forms bad.steps) (bad.payload ∷ bad.behind) size cut;
-        behind = at;
-        payload = bad.payload;
-        here = subst (λ (p : ℕ). IsRecord c p bad.payload size) (sym at) (records-back c 0 (written_forms bad.steps) (bad.payload ∷ bad.behind) size cut).0;
-        refused = bad.refused;
-      });
-    }
+-- what is read stays the same where nothing is written
+pub same_content : (u v : View) → OnlyRead u v → u.content 0 ≡ v.content 0
+same_content u v h = λ i k. h.content 0 k i
 
--- and so does a length that no record has, behind the records of a history
-pub bad_length : (size : ℕ) (c : Content) (site : SiteState) (payloads : List (List ℕ)) (place : ℕ) → Replays site payloads → IsBadAt c place size payloads → IsBadJournal size c place
-bad_length size c site payloads place h bad = record { steps = h.steps; history = h.history; bad = inl (subst (λ (l : List (List ℕ)). IsBadAt c place size l) h.forms bad) }
+-- so that what is found behind reads is what was there before them
+pub still_over : (u v : View) (old new : ReaderState) → OnlyRead u v → (IsOver (v.content 0) old → IsOver (v.content 0) new) → IsOver (u.content 0) old → IsOver (u.content 0) new
+still_over u v old new only goes over =
+    subst (λ (c : Content). IsOver c new) (sym (same_content u v only)) (goes (subst (λ (c : Content). IsOver c old) (same_content u v only) over))
 
-pub tells_journal : (size : ℕ) (c : Content) (payloads : List (List ℕ)) (refusal : ReplayRefusal) → size ≤ 268435456 → AreRecords c 0 payloads size → TellsPayloads payloads refusal
-    → TellsJournal size c (cause_of refusal)
-tells_journal size c payloads (BadStep place) small records tells = bad_step size c payloads place small records tells
-tells_journal size c payloads Wanting small records tells = tt
+pub found_before : (u v : View) (old new : ReaderState) (found : Found) → OnlyRead u v → (IsOver (v.content 0) old → IsFound (v.content 0) old new found) → IsOver (u.content 0) old
+    → IsFound (u.content 0) old new found
+found_before u v old new found only finds over =
+    subst (λ (c : Content). IsFound c old new found) (sym (same_content u v only)) (finds (subst (λ (c : Content). IsOver c old) (same_content u v only) over))
 
--- payloads are not refused for a fault of the store
-pub no_fault : (refusal : ReplayRefusal) → cause_of refusal ≡ BankFault → ⊥
-no_fault (BadStep place) is = let differs : BadJournal place ≡ BankFault = is in cc
-no_fault Wanting is = let differs : NoMemory ≡ BankFault = is in cc
+-- A journal has no byte of a file: a put that was read stands for one of zeros.
+abbrev zeros_of : StepKind → List ℕ
+zeros_of (Put inode path owner group size runs) = replicate size 0
+zeros_of _ = []
 
--- the journal's count and place are those of the history
-pub replayed : (journal : JournalState) (site : SiteState) (payloads : List (List ℕ)) (h : Replays site payloads) → journal.count ≡ length payloads → journal.place ≡ end_of 0 payloads
-    → IsReplayed journal site h.steps
-replayed journal site payloads h count place = record {
-  history = h.history;
-  keeps = h.keeps;
-  count = count ∙ sym (replayed_count site payloads h);
-  place = place ∙ ap (λ (l : List (List ℕ)). end_of 0 l) h.forms ∙ end_of-history h.steps;
+abbrev with_zeros : Step → HistoryStep
+with_zeros step = record { step = step; bytes = zeros_of step.kind }
+
+zeros_fit : (moment : ℕ) (kind : StepKind) → HasBytes (with_zeros (record { moment = moment; kind = kind }))
+zeros_fit moment (Put inode path owner group size runs) = length-replicate size 0
+zeros_fit moment _ = refl
+
+-- before the first record
+pub read_none : (told : Bool) (c : Content) (reader : ReaderState) (site : SiteState) → Keeps site first_fields → reader.place ≡ 0 → reader.count ≡ 0 → IsReadUpTo told c reader site
+read_none told c reader site keeps place count = record { steps = []; history = tt; keeps = keeps; count = count; place = place; records = λ t. tt }
+
+module _ (told : Bool) (c : Content) (old new : ReaderState) (site : SiteState) (so_far : IsReadUpTo told c old site) where
+  -- one record more, of a step that may come
+  pub read_more : (next : SiteState) → GoesOn old new Record → new.size ≡ old.size → (IsTrue told → IsRecord c old.place new.payload old.size)
+      → IsStepReplayed (after so_far.steps).fields new.payload next → IsReadUpTo told c new next
+  read_more next on size here made =
+      let step : HistoryStep = with_zeros made.step in
+      let longer : written_forms (so_far.steps ++ step ∷ []) ≡ written_forms so_far.steps ++ new.payload ∷ [] =
+      written_forms-push so_far.steps step ∙ ap (λ (p : List ℕ). written_forms so_far.steps ++ p ∷ []) (sym made.form) in
+      record {
+        steps = so_far.steps ++ step ∷ [];
+        history = history-push so_far.steps step so_far.history made.legal (zeros_fit made.step.moment made.step.kind);
+        keeps = subst (λ (s : Site). Keeps next s.fields) (sym (after-push so_far.steps step)) made.keeps;
+        count = omega (arith, on.3, so_far.count, length-append so_far.steps (step ∷ []));
+        place = on.1 ∙ ap (λ (n : ℕ). n + 5 + length new.payload) so_far.place ∙ sym (end-push 0 (written_forms so_far.steps) new.payload) ∙ ap (λ (l : List (List ℕ)). end_of 0 l) (sym longer);
+        records = λ t. subst (λ (n : ℕ). AreRecords c 0 (written_forms (so_far.steps ++ step ∷ [])) n) (sym size)
+            (subst (λ (l : List (List ℕ)). AreRecords c 0 l old.size) (sym longer)
+            (records-push c 0 (written_forms so_far.steps) new.payload old.size (so_far.records t)
+            (subst (λ (n : ℕ). IsRecord c n new.payload old.size) so_far.place (here t))));
+      }
+
+  -- or of none: the journal is bad there
+  pub bad_step : IsTrue told → IsRecord c old.place new.payload old.size → IsOfNoStep (after so_far.steps).fields new.payload → IsBadJournal old.size c old.place
+  bad_step t here refused = record {
+    steps = so_far.steps;
+    history = so_far.history;
+    bad = inr (record { before = so_far.records t; behind = so_far.place; payload = new.payload; here = here; refused = refused });
+  }
+
+  -- and so it is where a length is one that no record has
+  pub bad_length : IsTrue told → IsFound c old new BadLength → IsBadJournal old.size c old.place
+  bad_length t found = record { steps = so_far.steps; history = so_far.history; bad = inl (found (written_forms so_far.steps) (so_far.records t) so_far.place) }
+
+-- the journal ends behind the history
+pub read_to_end : (told : Bool) (c : Content) (old new : ReaderState) (site : SiteState) (h : IsReadUpTo told c old site) → GoesOn old new End → new.size ≡ old.size → (IsTrue told → IsFound c old new End)
+    → IsReadToEnd told c new site
+read_to_end told c old new site h on size ends = record {
+  so_far = record {
+    steps = h.steps;
+    history = h.history;
+    keeps = h.keeps;
+    count = on.1 ∙ h.count;
+    place = on.0 ∙ h.place;
+    records = λ t. subst (λ (n : ℕ). AreRecords c 0 (written_forms h.steps) n) (sym size) (h.records t);
+  };
+  shut = λ t. subst (λ (n : ℕ). IsEnd c n new.size) (sym on.0) (subst (λ (n : ℕ). IsEnd c old.place n) (sym size) (ends t));
 }
 
--- what a bad record carries
-pub bad_record : (refusal : JournalRefusal) (place : ℕ) (payloads : List (List ℕ)) (P : ℕ → List (List ℕ) → Type 0) → refusal ≡ BadRecord place payloads → IfBadRecord refusal P → P place payloads
-bad_record refusal place payloads P is h = subst (λ (r : JournalRefusal). IfBadRecord r P) is h
+-- the journal goes on behind the history
+pub replayed : (told : Bool) (c : Content) (journal : JournalState) (reader : ReaderState) (site : SiteState) (h : IsReadToEnd told c reader site)
+    → journal.count ≡ reader.count → journal.place ≡ reader.place → IsReplayed journal site h.so_far.steps
+replayed told c journal reader site h count place = record {
+  history = h.so_far.history;
+  keeps = h.so_far.keeps;
+  count = count ∙ h.so_far.count;
+  place = place ∙ h.so_far.place ∙ end_of-history h.so_far.steps;
+}
+
+-- whose records the area holds
+pub held : (told : Bool) (c : Content) (reader : ReaderState) (site : SiteState) (h : IsReadToEnd told c reader site) → IsTrue told → HoldsRecords c 0 (written_forms h.so_far.steps) reader.size
+held told c reader site h t = record {
+  records = h.so_far.records t;
+  shut = subst (λ (n : ℕ). IsEnd c n reader.size) h.so_far.place (h.shut t);
+}

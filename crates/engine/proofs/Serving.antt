@@ -1,18 +1,20 @@
 -- An event, where a reopening is due and where none is.
 use Rattle.std.proofs.Common.{◌≡◌, ◌⊎◌, inl, inr, ⊎_elim, ℕ, ◌<◌, ◌≤◌, ◌^◌, List, refl, sym, ◌∙◌, ap, subst, arith, Bool, true, false, Option, Some, None}
 use Rattle.std.specs.Prelude.{IsTrue}
-use Rattle.bank.specs.Content.{Image}
+use Rattle.bank.specs.Content.{Content, Image}
 use Rattle.bank.specs.View.{View, IsImage, LeavesOnly}
 use Rattle.bank.proofs.Moments.{weakened, joined}
 use Rattle.journal.specs.State.{JournalState}
 use Rattle.records.specs.declared.event.Event.{Event}
-use Rattle.records.specs.declared.event.Event.TheVariants.{Put as PutEvent}
+use Rattle.records.specs.declared.event.Event.TheVariants.{Put as PutEvent, Configure as ConfigureEvent}
+use Rattle.records.specs.declared.file.SiteTexts.{SiteTexts}
 use Rattle.records.specs.declared.reply.Reply.{Reply}
 use Rattle.site_history.specs.Site.{Fields}
 use Rattle.site_history.specs.Steps.{HistoryStep}
 use Rattle.site_history.specs.Histories.{after}
-use Rattle.site_history.specs.Worlds.{World, at, moment_of, Turn, IsReopened, clock_from, RefusesReopening, EventTurnBy, EventTurn}
+use Rattle.site_history.specs.Worlds.{World, at, moment_of, Turn, IsReopened, clock_from, RefusesReopening, EventTurnBy, EventTurn, TellsConfiguration}
 use Rattle.site_history.specs.Images.{Reads, ReadsAs}
+use Rattle.site_history.proofs.Refusing.{tells_configuration}
 use Rattle.engine.specs.declared.kept.Engine.{Engine}
 use Rattle.site_state.specs.Keeps.{Keeps}
 use Rattle.engine.specs.StandsFor.{StandsFor, Moves, IsRecovered, StaysFor}
@@ -72,20 +74,20 @@ at_rest told view engine w s due = by_parts w.due w.owed (sym s.due ∙ due) (s.
 pub event_at_rest : {B P : Type 0} (told : Bool) (view : B → View) (old new : Engine B P) (w : World) (s : StandsFor told view old w) (due : old.due ≡ false) (size : ℕ) (event : Event) (now area : ℕ) (reply : Reply)
     → ((history : List HistoryStep) (clock : ℕ) → StandsFor told view old (at history clock)
     → (w' : World) × Turn size told history event (moment_of clock now) area reply w' × Moves told view old new (at history clock) w')
-    → (w' : World) × EventTurn size told w event now area reply w' × Moves told view old new w w'
+    → (w' : World) × EventTurn size told w event now area ((view old.bank).content 0) reply w' × Moves told view old new w w'
 event_at_rest told view old new w s due size event now area reply served =
     let rest = at_rest told view old w s due in
     let turn = served w.history w.clock (subst (λ (x : World). StandsFor told view old x) rest s) in (
       turn.0,
-      subst (λ (b : Bool). EventTurnBy b size told w event now area reply turn.0) (sym due ∙ s.due) turn.1,
+      subst (λ (b : Bool). EventTurnBy b size told w event now area ((view old.bank).content 0) reply turn.0) (sym due ∙ s.due) turn.1,
       subst (λ (x : World). Moves told view old new x turn.0) (sym rest) turn.2,
     )
 
 -- A history that a reopening led to is one that an image of the world may read as.
-reopened_reads : (told : Bool) → IsTrue told → (size : ℕ) (w : World) (steps : List HistoryStep) (c : Image) → IsReopened told w steps → Reads size c steps → ReadsAs size w c
-reopened_reads true t size w steps c (inl is) r = inl (subst (λ (l : List HistoryStep). Reads size c l) is r)
-reopened_reads true t size w steps c (inr more) r = inr (more.0, more.1, subst (λ (l : List HistoryStep). Reads size c l) more.2 r)
-reopened_reads false t size w steps c reopened r = absurd (let no : false ≡ true = t in cc)
+reopened_reads : (told : Bool) → IsTrue told → (size : ℕ) (read : Content) (w : World) (steps : List HistoryStep) (c : Image) → IsReopened told size read w steps → Reads size c steps → ReadsAs size w c
+reopened_reads true t size read w steps c (inl is, holds) r = inl (subst (λ (l : List HistoryStep). Reads size c l) is r)
+reopened_reads true t size read w steps c (inr more, holds) r = inr (more.0, more.1, subst (λ (l : List HistoryStep). Reads size c l) more.2 r)
+reopened_reads false t size read w steps c reopened r = absurd (let no : false ≡ true = t in cc)
 
 alone : (size : ℕ) (history : List HistoryStep) (clock : ℕ) (c : Image) → ReadsAs size (at history clock) c → Reads size c history
 alone size history clock c (inl r) = r
@@ -96,12 +98,12 @@ pub event_reopened : {B P : Type 0} (told : Bool) (view : B → View) (old mid n
     → IsRecovered told view old mid w → mid.journal.size ≡ old.journal.size
     → ((history : List HistoryStep) (clock : ℕ) → StandsFor told view mid (at history clock)
     → (w' : World) × Turn mid.journal.size told history event (moment_of clock now) area reply w' × Moves told view mid new (at history clock) w')
-    → (w' : World) × EventTurn old.journal.size told w event now area reply w' × Moves told view old new w w'
+    → (w' : World) × EventTurn old.journal.size told w event now area ((view old.bank).content 0) reply w' × Moves told view old new w w'
 event_reopened told view old mid new w s due event now area reply recovered size served =
     let clock = clock_from told w recovered.steps in
     let turn = served recovered.steps clock recovered.stands in (
       turn.0,
-      subst (λ (b : Bool). EventTurnBy b old.journal.size told w event now area reply turn.0) (sym due ∙ s.due)
+      subst (λ (b : Bool). EventTurnBy b old.journal.size told w event now area ((view old.bank).content 0) reply turn.0) (sym due ∙ s.due)
           (inl (recovered.steps, recovered.reopened, subst (λ (n : ℕ). Turn n told recovered.steps event (moment_of clock now) area reply turn.0) size turn.1)),
       record {
         stands = turn.2.stands;
@@ -110,16 +112,16 @@ event_reopened told view old mid new w s due event now area reply recovered size
             (weakened (view mid.bank) (view new.bank) (λ c. ReadsAs old.journal.size (at recovered.steps clock) c ⊎ ReadsAs old.journal.size turn.0 c)
             (λ c. ReadsAs old.journal.size w c ⊎ ReadsAs old.journal.size turn.0 c)
             (subst (λ (n : ℕ). LeavesOnly (view mid.bank) (view new.bank) (λ c. ReadsAs n (at recovered.steps clock) c ⊎ ReadsAs n turn.0 c)) size (turn.2.moments t))
-            (λ c reads. ⊎_elim (λ was. inl (reopened_reads told t old.journal.size w recovered.steps c recovered.reopened (alone old.journal.size recovered.steps clock c was))) (λ is. inr is) reads));
+            (λ c reads. ⊎_elim (λ was. inl (reopened_reads told t old.journal.size ((view old.bank).content 0) w recovered.steps c recovered.reopened (alone old.journal.size recovered.steps clock c was))) (λ is. inr is) reads));
       },
     )
 
 -- A reopening that is refused.
 pub event_refused : {B P : Type 0} (told : Bool) (view : B → View) (old new : Engine B P) (w : World) (s : StandsFor told view old w) (due : old.due ≡ true) (size : ℕ) (event : Event) (now area : ℕ) (reply : Reply)
-    → RefusesReopening told reply → StaysFor told view old new w → (w' : World) × EventTurn size told w event now area reply w' × Moves told view old new w w'
+    → RefusesReopening told reply → StaysFor told view old new w → (w' : World) × EventTurn size told w event now area ((view old.bank).content 0) reply w' × Moves told view old new w w'
 event_refused told view old new w s due size event now area reply refuses stays = (
   w,
-  subst (λ (b : Bool). EventTurnBy b size told w event now area reply w) (sym due ∙ s.due) (inr (refuses, refl)),
+  subst (λ (b : Bool). EventTurnBy b size told w event now area ((view old.bank).content 0) reply w) (sym due ∙ s.due) (inr (refuses, refl)),
   record {
     stands = stays.stands;
     moments = λ t. weakened (view old.bank) (view new.bank) (ReadsAs old.journal.size w) (λ c. ReadsAs old.journal.size w c ⊎ ReadsAs old.journal.size w c) (stays.moments t) (λ c reads. inl reads);
@@ -129,3 +131,9 @@ event_refused told view old new w s due size event now area reply refuses stays 
 -- A put of the same bytes is the same event.
 pub same_put : (path owner group bytes a b c d : List ℕ) → a ≡ path → b ≡ owner → c ≡ group → d ≡ bytes → PutEvent a b c d ≡ PutEvent path owner group bytes
 same_put path owner group bytes a b c d e f g h = cc
+
+-- An event that configures the site tells the first command file that is wrong.
+pub asked_told : (size : ℕ) (told : Bool) (w : World) (event : Event) (texts : SiteTexts) (now area : ℕ) (read : Content) (reply : Reply) (w' : World)
+    → event ≡ ConfigureEvent texts → EventTurn size told w event now area read reply w' → TellsConfiguration size told w read texts reply
+asked_told size told w event texts now area read reply w' is turn =
+    tells_configuration size told w texts now area read reply w' (subst (λ (e : Event). EventTurn size told w e now area read reply w') is turn)

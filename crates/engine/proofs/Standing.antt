@@ -7,9 +7,9 @@ use Rattle.journal.specs.Records.{HoldsRecords}
 use Rattle.journal.specs.State.{JournalState}
 use Rattle.site_history.specs.Site.{Fields}
 use Rattle.site_history.specs.Steps.{HistoryStep}
-use Rattle.site_history.specs.Histories.{after, IsHistory}
-use Rattle.site_history.specs.Worlds.{World, site_of, at, new_world, IsReopened, IsFound}
-use Rattle.site_history.specs.Images.{written_forms, Reads, ReadsAs, IsSettled}
+use Rattle.site_history.specs.Histories.{after, IsHistory, written_forms}
+use Rattle.site_history.specs.Worlds.{World, site_of, at, new_world, IsWithOrWithout, IsFound}
+use Rattle.site_history.specs.Images.{Reads, ReadsAs, IsSettled}
 use Rattle.site_history.specs.Journals.{HoldsHistory, IsBadJournal}
 use Rattle.site_history.proofs.HistoryLaws.{history-front}
 use Rattle.site_history.proofs.Turns.{moment-push}
@@ -51,8 +51,12 @@ stands_at told view new steps clock h count same in_time range due images = reco
   images = λ is_told c image. inl (images is_told c image);
 }
 
+-- what a journal's area holds is the same where nothing was written
+pub holds_before : (size : ℕ) (u v : View) (steps : List HistoryStep) → OnlyRead u v → IsHistory steps → HoldsRecords (v.content 0) 0 (written_forms steps) size → HoldsHistory size (u.content 0) steps
+holds_before size u v steps only history holds = holds_history_same size (v.content 0) (u.content 0) steps (λ k. sym (only.content 0 k)) (record { history = history; records = holds })
+
 -- no reopening leads to a step later than the clock
-reopened_in_time : (w : World) (steps : List HistoryStep) → IsHistory steps → IsReopened true w steps → (site_of w).fields.moment ≤ w.clock
+reopened_in_time : (w : World) (steps : List HistoryStep) → IsHistory steps → IsWithOrWithout w steps → (site_of w).fields.moment ≤ w.clock
     → ((made : HistoryStep) → w.owed ≡ Some made → made.step.moment ≤ w.clock) → (after steps).fields.moment ≤ w.clock
 reopened_in_time w steps history (inl is) in_time owed_in_time = subst (λ (l : List HistoryStep). (after l).fields.moment ≤ w.clock) (sym is) in_time
 reopened_in_time w steps history (inr h) in_time owed_in_time =
@@ -122,7 +126,11 @@ module _ {B P : Type 0} (view : B → View) (old new : Engine B P) (w : World) w
         let in_time = reopened_in_time w led.0 led.3 led.1 s.in_time s.owed_in_time in
         record {
           steps = led.0;
-          reopened = led.1;
+          reopened = (
+            led.1,
+            holds_before old.journal.size (view old.bank) (view new.bank) led.0 only led.3
+                (subst (λ (forms : List (List ℕ)). HoldsRecords ((view new.bank).content 0) 0 forms old.journal.size) led.2 holds),
+          );
           stands = stands_at true view new led.0 w.clock there count (omega (arith, clock, s.clock, there.keeps.moment, in_time)) in_time s.range due
               (λ is_told c image. subst (λ (n : ℕ). Reads n c led.0) (sym size) (led.4 c image));
           moments = λ is_told. moments_of_reading old.journal.size (view old.bank) (view new.bank) w only (s.images refl);
@@ -161,6 +169,3 @@ pub tells_before : (size : ℕ) (u v : View) (cause : ShutCause) → OnlyRead u 
 tells_before size u v BankFault only tells = tt
 tells_before size u v (BadJournal place) only tells = bad_journal_same size (v.content 0) (u.content 0) place (λ k. sym (only.content 0 k)) tells
 tells_before size u v NoMemory only tells = tt
-
-pub holds_before : (size : ℕ) (u v : View) (steps : List HistoryStep) → OnlyRead u v → IsHistory steps → HoldsRecords (v.content 0) 0 (written_forms steps) size → HoldsHistory size (u.content 0) steps
-holds_before size u v steps only history holds = holds_history_same size (v.content 0) (u.content 0) steps (λ k. sym (only.content 0 k)) (record { history = history; records = holds })

@@ -4,8 +4,6 @@ use Rattle.bank.specs.Content.{Content}
 use Rattle.records.specs.declared.reply.Reply.{Reply}
 use Rattle.records.specs.declared.reply.Reply.TheVariants.{BadJournal as BadJournalReply}
 use Rattle.site_history.specs.Journals.{IsBadJournal}
-use Rattle.site_state.specs.declared.replays.ReplayRefusal.{ReplayRefusal}
-use Rattle.site_state.specs.declared.replays.ReplayRefusal.TheVariants.{BadStep, NoMemory as Wanting}
 use Rattle.engine.specs.declared.engine.ShutCause.{ShutCause}
 use Rattle.engine.specs.declared.engine.ShutCause.TheVariants.{BankFault, BadJournal, NoMemory}
 
@@ -18,8 +16,3 @@ TellsJournal size c (BadJournal place) = IsBadJournal size c place
 abbrev pub RepliesJournal : ℕ → Content → Reply → Type 0
 RepliesJournal size c (BadJournalReply place) = IsBadJournal size c place
 RepliesJournal size c _ = Unit {0}
-
--- payloads that are not replayed make the journal bad, but for want of memory
-abbrev pub cause_of : ReplayRefusal → ShutCause
-cause_of (BadStep place) = BadJournal place
-cause_of Wanting = NoMemory

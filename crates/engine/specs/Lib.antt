@@ -2,3 +2,4 @@ pub mod StandsFor
 pub mod Replayed
 pub mod Journals
 pub mod Ready
+pub mod Counts

@@ -33,10 +33,10 @@ pub record Moves {B P : Type 0} (told : Bool) (view : B → View) (old new : Eng
   pub stands : StandsFor told view new w'
   pub moments : IsTrue told → LeavesOnly (view old.bank) (view new.bank) (λ c. ReadsAs old.journal.size w c ⊎ ReadsAs old.journal.size w' c)
 
--- A reopening came to a history, and the engine stands for it. Each image meanwhile reads as the world.
+-- A reopening came to the history that the journal held, and the engine stands for it. Each image meanwhile reads as the world.
 pub record IsRecovered {B P : Type 0} (told : Bool) (view : B → View) (old new : Engine B P) (w : World) : Type 0 where
   pub steps : List HistoryStep
-  pub reopened : IsReopened told w steps
+  pub reopened : IsReopened told old.journal.size ((view old.bank).content 0) w steps
   pub stands : StandsFor told view new (at steps (clock_from told w steps))
   pub moments : IsTrue told → LeavesOnly (view old.bank) (view new.bank) (ReadsAs old.journal.size w)
 

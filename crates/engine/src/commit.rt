@@ -1,7 +1,7 @@
 //! A step's record.
 
 ghost use Rattle.std.specs.Prelude.{◌≡◌, ◌+◌, ◌++◌, ◌∷◌, [], ◌≤◌, true, false, Bool, List as Seq, IsTrue, length, OnOk, OnErr};
-ghost use Rattle.site_text.specs.Causes.{Rose};
+ghost use Rattle.base.specs.Causes.{Rose};
 ghost use Rattle.records.specs.Written.{InRange};
 ghost use Rattle.journal.specs.Records.{IsPayload};
 ghost use Rattle.site_history.specs.Steps.{HistoryStep};
@@ -31,8 +31,10 @@ impl<B: Bank, P: Drop> Engine<B, P> {
         ensures owed { (told : Bool) → (IsTrue told → IsTrue B.tells) → (history : Seq HistoryStep) → (made : HistoryStep) → made.step ≡ prepared.step → IsReady told B.view self.old history made
             → OnErr result (Moves told B.view self.old self.new (at history self.old.clock) (owing history self.old.clock made)) }
         ensures fault { OnErr result (Rose (B.faults self.old.bank) (B.faults self.new.bank)) }
+        ensures journal_fault { OnErr result (Rose (B.journal_faults self.old.bank) (B.journal_faults self.new.bank)) }
         ensures area { OnErr result (B.last_fault self.new.bank ≡ 0) }
         ensures later { B.faults self.old.bank ≤ B.faults self.new.bank }
+        ensures journal_later { B.journal_faults self.old.bank ≤ B.journal_faults self.new.bank }
         ensures open { OnOk result (self.new.due ≡ false) }
         ensures due { OnErr result (self.new.due ≡ true) }
         ensures size { self.new.journal.size ≡ self.old.journal.size }

@@ -1,19 +1,19 @@
 //! Configurations.
 
 ghost use Rattle.std.specs.Prelude.{ℕ, ◌≡◌, ◌≢◌, ◌≤◌, false, Bool, List as Seq, None, Some, option_map, IfOk, IfErr, IfNone, IfSome, OnOk, IsTrue};
-ghost use Rattle.site_text.specs.Causes.{Rose};
 ghost use Rattle.bank.specs.Content.{Content};
 ghost use Rattle.records.specs.Written.{written, InRange};
 ghost use Rattle.records.specs.declared.event.Event.TheVariants.{Configure as ConfigureEvent};
 ghost use Rattle.records.specs.declared.reply.Reply.TheVariants.{Refused};
 ghost use Rattle.records.specs.declared.step.StepKind.TheVariants.{Configured};
 ghost use Rattle.journal.specs.Records.{IsPayload};
-ghost use Rattle.configuration.specs.Readings.{AreWithin, refusal_of};
-ghost use Rattle.configuration.specs.Says.{TellsRefusal};
+ghost use Rattle.configuration.specs.ConfigurationRules.{AreWithin};
+ghost use Rattle.configuration.specs.ConfigurationSteps.{refusal_of, TellsRefusal};
 ghost use Rattle.site_history.specs.Site.{Fields};
 ghost use Rattle.site_history.specs.Steps.{HistoryStep};
 ghost use Rattle.site_history.specs.Answers.{bare_step, configure_refusal, conf_refused};
 ghost use Rattle.site_history.specs.Worlds.{World, at, Turn};
+ghost use Rattle.engine.specs.Counts.{IsRepliedFor};
 ghost use Rattle.engine.specs.Journals.{RepliesJournal};
 ghost use Rattle.engine.specs.Ready.{IsUnmoved};
 ghost use Rattle.site_state.specs.Room.{IsPrepared};
@@ -62,8 +62,7 @@ impl<B: Bank, P: Drop> Engine<B, P> {
         requires { self.old.due ≡ false }
         ensures turn { (told : Bool) → (IsTrue told → IsTrue B.tells) → (history : Seq HistoryStep) → StandsFor told B.view self.old (at history self.old.clock)
             → (w : World) × Turn self.old.journal.size told history (ConfigureEvent texts.now) self.old.clock (B.last_fault self.new.bank) result w × Moves told B.view self.old self.new (at history self.old.clock) w }
-        ensures fault { result ≡ Reply.BankFault → Rose (B.faults self.old.bank) (B.faults self.new.bank) }
-        ensures later { B.faults self.old.bank ≤ B.faults self.new.bank }
+        ensures causes { IsRepliedFor B.faults B.journal_faults B.last_fault self.old.bank self.new.bank result }
         ensures ready { result ≢ Reply.BankFault → self.new.due ≡ false }
         ensures journal { (size : ℕ) (c : Content) → RepliesJournal size c result }
         ensures size { self.new.journal.size ≡ self.old.journal.size }

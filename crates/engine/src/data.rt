@@ -1,13 +1,13 @@
 //! The bytes of files in the cache.
 
-ghost use Rattle.std.specs.Prelude.{◌≡◌, ◌+◌, ◌*◌, ◌<◌, ◌≤◌, ◌^◌, ℕ, List as Seq, IsTrue, length, take, IfOk, OnOk, OnErr};
-ghost use Rattle.site_text.specs.Causes.{HasCause};
+ghost use Rattle.std.specs.Prelude.{◌≡◌, ◌+◌, ◌*◌, ◌<◌, ◌≤◌, ◌^◌, ℕ, List as Seq, IsTrue, length, take, IfOk, OnOk};
 ghost use Rattle.bank.specs.Content.{Stands};
 ghost use Rattle.bank.specs.View.{Touches, OnlyRead};
 ghost use Rattle.bank.specs.Inside.{WroteInside};
 ghost use Rattle.cache_space.specs.Space.{AreMaximal, blocks_in};
 ghost use Rattle.site_history.specs.Images.{extents_over, AllStand};
 ghost use Rattle.site_history.specs.Pinned.{StandInAll, in_blocks_of};
+ghost use Rattle.engine.specs.Counts.{AreCountedInCache};
 
 use bank::{Bank, BankFailed};
 use records::Run;
@@ -27,9 +27,7 @@ fn write_run<B: Bank>(bank: &mut B, run: &Run, piece: &[u8]) -> Result<(), BankF
     requires { length piece.now ≤ run.now.count * 4096 }
     ensures torn { IsTrue B.tells → Touches 1 (run.now.first * 4096) (length piece.now) (B.view bank.old) (B.view bank.new) }
     ensures written { IsTrue B.tells → OnOk result (Stands ((B.view bank.new).content 1) (run.now.first * 4096) piece.now) }
-    ensures cause { HasCause (B.faults bank.old) (B.faults bank.new) result }
-    ensures area { OnErr result (B.last_fault bank.new ≡ 1) }
-    ensures last { OnOk result (B.last_fault bank.new ≡ B.last_fault bank.old) }
+    ensures counted { AreCountedInCache B.faults B.journal_faults B.last_fault bank.old bank.new result }
 {
     let first = run.first as u64;
     // Read, so that its range is known: the end of the bytes is below 2^63.
@@ -42,9 +40,7 @@ fn write_runs<B: Bank>(bank: &mut B, runs: &[Run], bytes: &[u8]) -> Result<(), B
     requires { AreMaximal runs.now }
     ensures wrote { IsTrue B.tells → WroteInside 1 (in_blocks_of runs.now) (B.view bank.old) (B.view bank.new) }
     ensures written { IsTrue B.tells → OnOk result (AllStand (B.view bank.new).content (extents_over runs.now bytes.now)) }
-    ensures cause { HasCause (B.faults bank.old) (B.faults bank.new) result }
-    ensures area { OnErr result (B.last_fault bank.new ≡ 1) }
-    ensures last { OnOk result (B.last_fault bank.new ≡ B.last_fault bank.old) }
+    ensures counted { AreCountedInCache B.faults B.journal_faults B.last_fault bank.old bank.new result }
 {
     let mut rest = bytes;
     for run in runs {
@@ -64,9 +60,7 @@ pub fn store<B: Bank>(bank: &mut B, runs: &[Run], bytes: &[u8]) -> Result<(), Ba
     ensures wrote { IsTrue B.tells → WroteInside 1 (in_blocks_of runs.now) (B.view bank.old) (B.view bank.new) }
     // At `Ok` the bytes stand in whatever a crash leaves.
     ensures stored { IsTrue B.tells → OnOk result (StandInAll (B.view bank.new) (extents_over runs.now bytes.now)) }
-    ensures cause { HasCause (B.faults bank.old) (B.faults bank.new) result }
-    ensures area { OnErr result (B.last_fault bank.new ≡ 1) }
-    ensures last { OnOk result (B.last_fault bank.new ≡ B.last_fault bank.old) }
+    ensures counted { AreCountedInCache B.faults B.journal_faults B.last_fault bank.old bank.new result }
 {
     if bytes.is_empty() {
         return Ok(());
@@ -80,9 +74,7 @@ fn read_run<B: Bank>(bank: &mut B, run: &Run, into: &mut [u8]) -> Result<(), Ban
     requires { length into.old ≤ run.now.count * 4096 }
     ensures bytes { IsTrue B.tells → OnOk result (Stands ((B.view bank.old).content 1) (run.now.first * 4096) into.new) }
     ensures unchanged { IsTrue B.tells → OnlyRead (B.view bank.old) (B.view bank.new) }
-    ensures cause { HasCause (B.faults bank.old) (B.faults bank.new) result }
-    ensures area { OnErr result (B.last_fault bank.new ≡ 1) }
-    ensures last { OnOk result (B.last_fault bank.new ≡ B.last_fault bank.old) }
+    ensures counted { AreCountedInCache B.faults B.journal_faults B.last_fault bank.old bank.new result }
 {
     if into.is_empty() {
         return Ok(());
@@ -99,9 +91,7 @@ fn load<B: Bank>(bank: &mut B, runs: &[Run], into: &mut [u8]) -> Result<(), Bank
     ensures bytes { IsTrue B.tells → (bytes : Seq ℕ) → length into.old ≤ blocks_in runs.now * 4096 → length into.old ≤ length bytes → AllStand (B.view bank.old).content (extents_over runs.now bytes)
         → OnOk result (into.new ≡ take (length into.old) bytes) }
     ensures unchanged { IsTrue B.tells → OnlyRead (B.view bank.old) (B.view bank.new) }
-    ensures cause { HasCause (B.faults bank.old) (B.faults bank.new) result }
-    ensures area { OnErr result (B.last_fault bank.new ≡ 1) }
-    ensures last { OnOk result (B.last_fault bank.new ≡ B.last_fault bank.old) }
+    ensures counted { AreCountedInCache B.faults B.journal_faults B.last_fault bank.old bank.new result }
 {
     let mut done = 0;
     for run in runs {
@@ -123,9 +113,7 @@ pub fn load_all<B: Bank>(
         → AllStand (B.view bank.old).content (extents_over runs.now bytes) → IfOk result (λ v. v.items ≡ take (length into.items) bytes) }
     ensures length { IfOk result (λ v. length v.items ≡ length into.items) }
     ensures unchanged { IsTrue B.tells → OnlyRead (B.view bank.old) (B.view bank.new) }
-    ensures cause { HasCause (B.faults bank.old) (B.faults bank.new) result }
-    ensures area { OnErr result (B.last_fault bank.new ≡ 1) }
-    ensures last { OnOk result (B.last_fault bank.new ≡ B.last_fault bank.old) }
+    ensures counted { AreCountedInCache B.faults B.journal_faults B.last_fault bank.old bank.new result }
 {
     load(bank, runs, &mut into)?;
     Ok(into)

@@ -1,17 +1,20 @@
 //! Events over a store.
 
 ghost use Rattle.std.specs.Prelude.{◌≡◌, ◌≢◌, ◌≤◌, ◌<◌, ◌^◌, ℕ, [], false, true, length, IfOk, IfErr, MatchResult, IsTrue, OnOk, OnErr, Bool, List};
-ghost use Rattle.site_text.specs.Causes.{Rose};
+ghost use Rattle.base.specs.Causes.{Rose};
 ghost use Rattle.bank.specs.Content.{Content};
 ghost use Rattle.bank.specs.View.{OnlyRead};
-ghost use Rattle.configuration.specs.Says.{Says};
+ghost use Rattle.records.specs.declared.event.Event.TheVariants.{Configure as ConfigureEvent};
+ghost use Rattle.records.specs.declared.file.SiteTexts.{SiteTexts as Texts};
+ghost use Rattle.configuration.specs.ConfigurationRules.{Says};
 ghost use Rattle.site_history.specs.Steps.{HistoryStep};
 ghost use Rattle.site_history.specs.Histories.{after};
-ghost use Rattle.site_history.specs.Worlds.{World, Turn, EventTurn, at, moment_of, new_world, IsFound, RefusesReopening};
+ghost use Rattle.site_history.specs.Worlds.{World, Turn, EventTurn, at, moment_of, new_world, IsFound, RefusesReopening, TellsConfiguration};
 ghost use Rattle.site_history.specs.Images.{IsSettled};
 ghost use Rattle.site_history.specs.Journals.{HoldsHistory};
 ghost use Rattle.engine.specs.StandsFor.{StandsFor, Moves, IsRecovered, StaysFor};
 ghost use Rattle.engine.specs.Journals.{TellsJournal, RepliesJournal};
+ghost use Rattle.engine.specs.Counts.{IsRepliedFor};
 
 use crate::kept::Engine;
 use crate::reopen::read_site;
@@ -68,6 +71,7 @@ impl<B: Bank, P: Drop> Engine<B, P> {
         ensures bad_journal { IsTrue B.tells → IfErr result (λ shut. TellsJournal journal_bytes ((B.view bank).content 0) shut.refusal) }
         ensures fault { IfErr result (λ shut. shut.refusal ≡ ShutCause.BankFault → Rose (B.faults bank) (B.faults shut.bank)) }
         ensures later { MatchResult result (λ engine. B.faults bank ≤ B.faults engine.bank) (λ shut. B.faults bank ≤ B.faults shut.bank) }
+        ensures journal_later { MatchResult result (λ engine. B.journal_faults bank ≤ B.journal_faults engine.bank) (λ shut. B.journal_faults bank ≤ B.journal_faults shut.bank) }
         ensures patterns { MatchResult result (λ engine. engine.patterns ≡ patterns) (λ shut. shut.patterns ≡ patterns) }
     {
         let Ok(payload) = Vec::with_capacity(alloc, PAYLOAD_MAX) else {
@@ -107,8 +111,9 @@ impl<B: Bank, P: Drop> Engine<B, P> {
         ensures patterns { self.new.patterns ≡ self.old.patterns }
         ensures unchanged { IsTrue B.tells → OnlyRead (B.view self.old.bank) (B.view self.new.bank) }
         ensures bad_journal { IsTrue B.tells → IfErr result (RepliesJournal self.old.journal.size ((B.view self.new.bank).content 0)) }
-        ensures fault { IfErr result (λ reply. reply ≡ Reply.BankFault → Rose (B.faults self.old.bank) (B.faults self.new.bank)) }
         ensures later { B.faults self.old.bank ≤ B.faults self.new.bank }
+        ensures journal_later { B.journal_faults self.old.bank ≤ B.journal_faults self.new.bank }
+        ensures causes { IfErr result (IsRepliedFor B.faults B.journal_faults B.last_fault self.old.bank self.new.bank) }
     {
         match read_site(self.alloc, &mut self.bank, self.journal.size()) {
             Ok((journal, site)) => {
@@ -126,12 +131,16 @@ impl<B: Bank, P: Drop> Engine<B, P> {
     }
 
     /// One event. Its moment is the greater of the clock and the lesser of `now` and 2^40 - 1. Where a reopening is due it
-    /// comes first.
+    /// comes first, and leads to the history that the journal holds when it is called.
     pub fn event(&mut self, event: &Event, now: u64) -> Reply
         ensures turn { (told : Bool) → (IsTrue told → IsTrue B.tells) → (w : World) → StandsFor told B.view self.old w
-            → (w' : World) × EventTurn self.old.journal.size told w event.now now (B.last_fault self.new.bank) result w' × Moves told B.view self.old self.new w w' }
+            → (w' : World) × EventTurn self.old.journal.size told w event.now now (B.last_fault self.new.bank) ((B.view self.old.bank).content 0) result w' × Moves told B.view self.old self.new w w' }
+        ensures wrong_file { (told : Bool) → (IsTrue told → IsTrue B.tells) → (w : World) → StandsFor told B.view self.old w → (texts : Texts) → event.now ≡ ConfigureEvent texts
+            → TellsConfiguration self.old.journal.size told w ((B.view self.old.bank).content 0) texts result }
         ensures fault { result ≡ Reply.BankFault → Rose (B.faults self.old.bank) (B.faults self.new.bank) }
+        ensures journal_fault { result ≡ Reply.BankFault → B.last_fault self.new.bank ≡ 0 → Rose (B.journal_faults self.old.bank) (B.journal_faults self.new.bank) }
         ensures later { B.faults self.old.bank ≤ B.faults self.new.bank }
+        ensures journal_later { B.journal_faults self.old.bank ≤ B.journal_faults self.new.bank }
         ensures bad_journal { IsTrue B.tells → RepliesJournal self.old.journal.size ((B.view self.new.bank).content 0) result }
         ensures ready { self.old.due ≡ false → result ≢ Reply.BankFault → self.new.due ≡ false }
         ensures size { self.new.journal.size ≡ self.old.journal.size }
@@ -153,8 +162,7 @@ impl<B: Bank, P: Drop> Engine<B, P> {
         requires { self.old.due ≡ false }
         ensures turn { (told : Bool) → (IsTrue told → IsTrue B.tells) → (history : List HistoryStep) (clock : ℕ) → StandsFor told B.view self.old (at history clock)
             → (w : World) × Turn self.old.journal.size told history event.now (moment_of clock now) (B.last_fault self.new.bank) result w × Moves told B.view self.old self.new (at history clock) w }
-        ensures fault { result ≡ Reply.BankFault → Rose (B.faults self.old.bank) (B.faults self.new.bank) }
-        ensures later { B.faults self.old.bank ≤ B.faults self.new.bank }
+        ensures causes { IsRepliedFor B.faults B.journal_faults B.last_fault self.old.bank self.new.bank result }
         ensures ready { result ≢ Reply.BankFault → self.new.due ≡ false }
         ensures journal { (size : ℕ) (c : Content) → RepliesJournal size c result }
         ensures size { self.new.journal.size ≡ self.old.journal.size }
@@ -170,8 +178,7 @@ impl<B: Bank, P: Drop> Engine<B, P> {
         requires { self.old.due ≡ false }
         ensures turn { (told : Bool) → (IsTrue told → IsTrue B.tells) → (history : List HistoryStep) → StandsFor told B.view self.old (at history self.old.clock)
             → (w : World) × Turn self.old.journal.size told history event.now self.old.clock (B.last_fault self.new.bank) result w × Moves told B.view self.old self.new (at history self.old.clock) w }
-        ensures fault { result ≡ Reply.BankFault → Rose (B.faults self.old.bank) (B.faults self.new.bank) }
-        ensures later { B.faults self.old.bank ≤ B.faults self.new.bank }
+        ensures causes { IsRepliedFor B.faults B.journal_faults B.last_fault self.old.bank self.new.bank result }
         ensures ready { result ≢ Reply.BankFault → self.new.due ≡ false }
         ensures journal { (size : ℕ) (c : Content) → RepliesJournal size c result }
         ensures size { self.new.journal.size ≡ self.old.journal.size }

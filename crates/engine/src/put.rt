@@ -1,8 +1,7 @@
 //! Puts.
 
 ghost use Rattle.std.specs.Prelude.{◌≡◌, ◌≢◌, ◌+◌, ◌<◌, ◌≤◌, ◌^◌, ◌++◌, [], ◌∷◌, ℕ, Bool, List as Seq, IsTrue, false, length, IfOk, OnOk};
-ghost use Rattle.site_text.specs.Causes.{Rose};
-ghost use Rattle.records.specs.Paths.{is_legal_path, is_legal_name};
+ghost use Rattle.base.specs.Paths.{is_legal_path, is_legal_name};
 ghost use Rattle.records.specs.Ranges.{IsInode};
 ghost use Rattle.records.specs.Written.{written, InRange};
 ghost use Rattle.records.specs.declared.event.Event.TheVariants.{Put as PutEvent};
@@ -18,6 +17,7 @@ ghost use Rattle.engine.specs.Ready.{IsUnmoved};
 ghost use Rattle.site_state.specs.Keeps.{Keeps};
 ghost use Rattle.site_state.specs.Room.{IsPrepared};
 ghost use Rattle.bank.specs.Content.{Content};
+ghost use Rattle.engine.specs.Counts.{IsRepliedFor};
 ghost use Rattle.engine.specs.Journals.{RepliesJournal};
 ghost use Rattle.engine.specs.StandsFor.{StandsFor, Moves};
 
@@ -25,9 +25,9 @@ use crate::data::store;
 use crate::kept::Engine;
 use crate::payload::write_payload;
 use bank::Bank;
+use base::Bytes;
 use records::{Reply, Run, Step, StepKind};
 use site_state::{Place, Prepared};
-use site_text::Bytes;
 use std::alloc::AllocError;
 
 // The runs of a put's step.
@@ -87,8 +87,7 @@ impl<B: Bank, P: Drop> Engine<B, P> {
         requires { self.old.due ≡ false }
         ensures turn { (told : Bool) → (IsTrue told → IsTrue B.tells) → (history : Seq HistoryStep) → StandsFor told B.view self.old (at history self.old.clock)
             → (w : World) × Turn self.old.journal.size told history (PutEvent path.now owner.now group.now bytes.now) self.old.clock (B.last_fault self.new.bank) result w × Moves told B.view self.old self.new (at history self.old.clock) w }
-        ensures fault { result ≡ Reply.BankFault → Rose (B.faults self.old.bank) (B.faults self.new.bank) }
-        ensures later { B.faults self.old.bank ≤ B.faults self.new.bank }
+        ensures causes { IsRepliedFor B.faults B.journal_faults B.last_fault self.old.bank self.new.bank result }
         ensures ready { result ≢ Reply.BankFault → self.new.due ≡ false }
         ensures journal { (size : ℕ) (c : Content) → RepliesJournal size c result }
         ensures size { self.new.journal.size ≡ self.old.journal.size }

@@ -1,11 +1,11 @@
 //! Removals.
 
 ghost use Rattle.std.specs.Prelude.{ℕ, ◌≡◌, ◌≢◌, ◌≤◌, false, Bool, List as Seq, IsTrue};
-ghost use Rattle.site_text.specs.Causes.{Rose};
 ghost use Rattle.records.specs.declared.event.Event.TheVariants.{Remove as RemoveEvent};
 ghost use Rattle.site_history.specs.Steps.{HistoryStep};
 ghost use Rattle.site_history.specs.Worlds.{World, at, Turn};
 ghost use Rattle.bank.specs.Content.{Content};
+ghost use Rattle.engine.specs.Counts.{IsRepliedFor};
 ghost use Rattle.engine.specs.Journals.{RepliesJournal};
 ghost use Rattle.engine.specs.StandsFor.{StandsFor, Moves};
 
@@ -21,8 +21,7 @@ impl<B: Bank, P: Drop> Engine<B, P> {
         requires { self.old.due ≡ false }
         ensures turn { (told : Bool) → (IsTrue told → IsTrue B.tells) → (history : Seq HistoryStep) → StandsFor told B.view self.old (at history self.old.clock)
             → (w : World) × Turn self.old.journal.size told history (RemoveEvent path.now) self.old.clock (B.last_fault self.new.bank) result w × Moves told B.view self.old self.new (at history self.old.clock) w }
-        ensures fault { result ≡ Reply.BankFault → Rose (B.faults self.old.bank) (B.faults self.new.bank) }
-        ensures later { B.faults self.old.bank ≤ B.faults self.new.bank }
+        ensures causes { IsRepliedFor B.faults B.journal_faults B.last_fault self.old.bank self.new.bank result }
         ensures ready { result ≢ Reply.BankFault → self.new.due ≡ false }
         ensures journal { (size : ℕ) (c : Content) → RepliesJournal size c result }
         ensures size { self.new.journal.size ≡ self.old.journal.size }

@@ -1,27 +1,50 @@
 //! A site from its journal.
 
 ghost use Rattle.std.specs.Prelude.{◌≡◌, ◌≤◌, List as Seq, IfOk, IfErr, OnOk, IsTrue};
-ghost use Rattle.site_text.specs.Causes.{Rose};
 ghost use Rattle.bank.specs.View.{OnlyRead, OnlyContent};
 ghost use Rattle.journal.specs.Records.{HoldsRecords};
+ghost use Rattle.journal.specs.Readers.{IsOver};
 ghost use Rattle.site_history.specs.Steps.{HistoryStep};
-ghost use Rattle.site_history.specs.Images.{written_forms};
-ghost use Rattle.engine.specs.Journals.{TellsJournal, cause_of};
-ghost use Rattle.engine.specs.Replayed.{IsReplayed};
+ghost use Rattle.site_history.specs.Histories.{written_forms};
+ghost use Rattle.engine.specs.Journals.{TellsJournal};
+ghost use Rattle.engine.specs.Replayed.{IsReplayed, IsReadUpTo, IsReadToEnd};
+ghost use Rattle.engine.specs.Counts.{IsShutFor};
 
 use crate::engine::ShutCause;
 use bank::Bank;
-use journal::{Journal, JournalRefusal};
-use site_state::{ReplayRefusal, SiteState, replay};
+use journal::{Found, Journal, JournalRefusal, Reader};
+use site_state::{ReplayRefusal, SiteState};
 use std::alloc::Global;
 
-// Why a site is not reopened where its payloads are not replayed.
-fn cause_of(refusal: ReplayRefusal) -> ShutCause
-    ensures { result ≡ cause_of refusal }
+// Makes the steps of all records that are left, one after another.
+fn replay_rest<B: Bank>(
+    alloc: Global,
+    bank: &mut B,
+    reader: &mut Reader,
+    site: &mut SiteState,
+) -> Result<(), ShutCause>
+    requires over { IsTrue B.tells → IsOver ((B.view bank.old).content 0) reader.old }
+    requires so_far { IsReadUpTo B.tells ((B.view bank.old).content 0) reader.old site.old }
+    ensures read { OnOk result (IsReadToEnd B.tells ((B.view bank.old).content 0) reader.new site.new) }
+    ensures size { reader.new.size ≡ reader.old.size }
+    ensures unchanged { IsTrue B.tells → OnlyRead (B.view bank.old) (B.view bank.new) }
+    ensures bad { IsTrue B.tells → IfErr result (TellsJournal reader.old.size ((B.view bank.old).content 0)) }
+    ensures causes { IsShutFor B.faults B.journal_faults bank.old bank.new result }
 {
-    match refusal {
-        ReplayRefusal::BadStep(place) => ShutCause::BadJournal(place),
-        ReplayRefusal::NoMemory => ShutCause::NoMemory,
+    'records: loop {
+        let place = reader.place();
+        let Ok(found) = reader.advance(bank) else {
+            return Err(ShutCause::BankFault);
+        };
+        match found {
+            Found::End => return Ok(()),
+            Found::BadLength => return Err(ShutCause::BadJournal(place)),
+            Found::Record => match site.replay(alloc, reader.payload()) {
+                Ok(()) => {}
+                Err(ReplayRefusal::BadStep) => return Err(ShutCause::BadJournal(place)),
+                Err(ReplayRefusal::NoMemory) => return Err(ShutCause::NoMemory),
+            },
+        }
     }
 }
 
@@ -38,21 +61,18 @@ pub fn read_site<B: Bank>(
     ensures unchanged { IsTrue B.tells → OnlyRead (B.view bank.old) (B.view bank.new) }
     ensures durable { IsTrue B.tells → OnOk result (OnlyContent 0 (B.view bank.new)) }
     ensures bad { IsTrue B.tells → IfErr result (TellsJournal size ((B.view bank.new).content 0)) }
-    ensures fault { IfErr result (λ cause. cause ≡ ShutCause.BankFault → Rose (B.faults bank.old) (B.faults bank.new)) }
-    ensures later { B.faults bank.old ≤ B.faults bank.new }
+    ensures causes { IsShutFor B.faults B.journal_faults bank.old bank.new result }
 {
-    match Journal::reopen(alloc, bank, size) {
-        Ok((journal, payloads)) => match replay(alloc, payloads.as_slice()) {
-            Ok(site) => Ok((journal, site)),
-            Err(refusal) => Err(cause_of(refusal)),
-        },
-        Err(JournalRefusal::BadRecord { place, payloads }) => {
-            match replay(alloc, payloads.as_slice()) {
-                Ok(_) => Err(ShutCause::BadJournal(place)),
-                Err(refusal) => Err(cause_of(refusal)),
-            }
-        }
-        Err(JournalRefusal::BankFault) => Err(ShutCause::BankFault),
-        Err(JournalRefusal::NoMemory) => Err(ShutCause::NoMemory),
+    let mut reader = match Reader::open(alloc, bank, size) {
+        Ok(reader) => reader,
+        Err(JournalRefusal::BankFault) => return Err(ShutCause::BankFault),
+        Err(JournalRefusal::NoMemory) => return Err(ShutCause::NoMemory),
+    };
+    let Ok(mut site) = SiteState::first(alloc) else {
+        return Err(ShutCause::NoMemory);
+    };
+    match replay_rest(alloc, bank, &mut reader, &mut site) {
+        Ok(()) => Ok((reader.into_journal(), site)),
+        Err(cause) => Err(cause),
     }
 }

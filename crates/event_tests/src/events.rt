@@ -3,9 +3,9 @@
 ghost use Rattle.std.specs.Prelude.{◌≤◌};
 
 use bank::{BankCall, FailAt, MemoryBank};
+use base::{Bytes, List};
 use engine::Engine;
 use records::{Event, Reply, SiteTexts};
-use site_text::{Bytes, List};
 use std::alloc::{AllocError, Global};
 use std::process::Abort;
 use std::test::Fail;
@@ -78,6 +78,7 @@ fn text_of(alloc: Global, reply: &Reply) -> Result<String, AllocError> {
         Reply::Refused(rule) => format!(in alloc; "refused {rule:?}"),
         Reply::JournalFull => String::from_str(alloc, "journal full"),
         Reply::BankFault => String::from_str(alloc, "fault"),
+        Reply::NoMemory => String::from_str(alloc, "no memory"),
         _ => String::from_str(alloc, "another"),
     }
 }
@@ -141,15 +142,20 @@ fn serves_files_over_reopenings(rt: HostRuntime) -> Result<(), Fail> {
     Ok(())
 }
 
-// An empty store whose call of this number in this area fails.
+// An empty store of which these calls in an area fail, each by its kind and number.
 fn failing_bank(
     alloc: Global,
     area: u32,
-    call: BankCall,
-    number: u64,
+    calls: &[(BankCall, u64)],
 ) -> Result<MemoryBank, AllocError> {
     let mut fail = List::new(alloc);
-    fail.push(FailAt { area, call, number })?;
+    for (call, number) in calls {
+        fail.push(FailAt {
+            area,
+            call: *call,
+            number: *number,
+        })?;
+    }
     MemoryBank::new(alloc, fail)
 }
 
@@ -168,9 +174,30 @@ fn goes_on_behind_a_fault(rt: HostRuntime) -> Result<(), Fail> {
             Row::new("put", "/a", &[8], 0, "fault"),
             Row::new("read", "/a", &[], 9, expected),
         ];
-        let bank = failing_bank(rt.alloc(), area, call, number)?;
+        let bank = failing_bank(rt.alloc(), area, &[(call, number)])?;
         let left = served(&rt, rt.alloc(), bank, JOURNAL, &events);
         assert_eq!(rt; left.steps, steps);
+    }
+    Ok(())
+}
+
+#[test]
+fn a_reopening_that_fails_is_tried_again(rt: HostRuntime) -> Result<(), Fail> {
+    // the calls on the journal that fail, one of an append and one of the reopening behind it, and what is read of the file then
+    let rows = [
+        ((BankCall::Sync, 2), (BankCall::Sync, 3), "refused NoFile"),
+        ((BankCall::Sync, 2), (BankCall::Read, 2), "refused NoFile"),
+        ((BankCall::Sync, 3), (BankCall::Sync, 4), "bytes [8]"),
+        ((BankCall::Sync, 3), (BankCall::Read, 2), "bytes [8]"),
+    ];
+    for (append, reopening, expected) in rows {
+        let events = [
+            Row::new("put", "/a", &[8], 0, "fault"),
+            Row::new("read", "/a", &[], 9, "fault"),
+            Row::new("read", "/a", &[], 9, expected),
+        ];
+        let bank = failing_bank(rt.alloc(), 0, &[append, reopening])?;
+        served(&rt, rt.alloc(), bank, JOURNAL, &events);
     }
     Ok(())
 }

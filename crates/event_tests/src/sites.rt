@@ -1,12 +1,12 @@
 //! A test of the site of no texts; steps are made on sites in the tests of events.
 
-use site_state::replay;
+use site_state::SiteState;
 use std::test::Fail;
 
 #[test]
 fn the_first_site_has_no_file(rt: HostRuntime) -> Result<(), Fail> {
-    let Ok(mut site) = replay(rt.alloc(), &[]) else {
-        panic!(rt; "not replayed");
+    let Ok(mut site) = SiteState::first(rt.alloc()) else {
+        panic!(rt; "no memory");
     };
     assert_eq!(rt; site.configuration().blocks(), 16_384);
     assert!(rt; site.file_at(b"/a").is_none());

@@ -1,14 +1,12 @@
 -- A line, byte by byte.
-use Rattle.std.proofs.Common.{◌≡◌, ◌≢◌, ℕ, ◌+◌, ◌<◌, ◌≤◌, List, [], ◌∷◌, ◌++◌, length, refl, sym, ◌∙◌, ap, subst, arith, Option, Bool, true, false, cond, append_assoc, length-append, get_or, drop, drop-cons, suc}
+use Rattle.std.proofs.Common.{◌≡◌, ◌≢◌, ℕ, ◌<◌, ◌≤◌, List, [], ◌∷◌, ◌++◌, length, refl, sym, ◌∙◌, ap, subst, arith, Option, Bool, true, false, cond, append_assoc, length-append}
 use Rattle.std.proofs.lemmas.Bool.{ne_eqb, lt-leb, eqb-true, eqb-false}
 use Rattle.std.proofs.lemmas.List.{append-nil}
 use Rattle.std.specs.Prelude.{nat_eq}
 use Rattle.input.specs.declared.line.LineRead.{LineRead}
 use Rattle.input.specs.declared.line.LineRead.TheVariants.{Line, TooLong, Ended, SourceFault, OverBudget}
-use Rattle.input.specs.declared.plain.RawLine.{RawLine}
-use Rattle.input.specs.declared.plain.RawLine.TheVariants.{Kept, Long}
 use Rattle.input.specs.Reading.{Reading, Moved, ReadsItem}
-use Rattle.input.specs.Lines.{line_of, without_return, lines_after, raw_lines}
+use Rattle.input.specs.Lines.{RawLine, Kept, Long, line_of, without_return, lines_after, raw_lines}
 use Rattle.input.specs.Reads.{ReadsLine, TellsLine}
 use Rattle.input.proofs.Pieces.{without_return-length}
 use Rattle.input.proofs.Steps.{stays, then_moved, then_stopped}
@@ -64,23 +62,6 @@ open_still (f ∷ front) = refl
 
 over : (front : List ℕ) → 4096 < length front → Long ≡ line_of front
 over front h = ap (λ (t : Bool). cond t (Kept front) Long) (sym (lt-leb (length front) 4096 h))
-
--- the lines of a text, one byte further: a line feed
-pub plain_fed : (all lines : List RawLine) (text front : List ℕ) (i b : ℕ) → i < length text → b ≡ get_or text i 0 → b ≡ 10 → all ≡ lines ++ lines_after front (drop i text) true
-    → all ≡ (lines ++ line_of (without_return front) ∷ []) ++ lines_after [] (drop (i + 1) text) true
-plain_fed all lines text front i b lt is ten e =
-    e ∙ ap (λ (l : List ℕ). lines ++ lines_after front l true) (drop-cons text i 0 lt ∙ ap (λ (k : ℕ). get_or text i 0 ∷ drop k text) (let o : suc i ≡ i + 1 = omega arith in o))
-    ∙ ap (λ (k : ℕ). lines ++ lines_after front (k ∷ drop (i + 1) text) true) (sym is ∙ ten)
-    ∙ ap (λ (l : List RawLine). lines ++ l) (fed front (drop (i + 1) text) true)
-    ∙ sym (append_assoc lines (line_of (without_return front) ∷ []) (raw_lines (drop (i + 1) text) true))
-
--- and another byte
-pub plain_not_fed : (all lines : List RawLine) (text front : List ℕ) (i b : ℕ) → i < length text → b ≡ get_or text i 0 → b ≢ 10 → all ≡ lines ++ lines_after front (drop i text) true
-    → all ≡ lines ++ lines_after (front ++ b ∷ []) (drop (i + 1) text) true
-plain_not_fed all lines text front i b lt is ne e =
-    e ∙ ap (λ (l : List ℕ). lines ++ lines_after front l true) (drop-cons text i 0 lt ∙ ap (λ (k : ℕ). get_or text i 0 ∷ drop k text) (let o : suc i ≡ i + 1 = omega arith in o))
-    ∙ ap (λ (k : ℕ). lines ++ lines_after front (k ∷ drop (i + 1) text) true) (sym is)
-    ∙ ap (λ (l : List RawLine). lines ++ l) (not_fed front (drop (i + 1) text) b true ne)
 
 -- what a line is, from what was kept of it
 is_line : (front line : List ℕ) (long : Bool) → IsKept front line long → cond long Long (line_of line) ≡ line_of front

@@ -1,7 +1,10 @@
 -- The lines of a text.
 use Rattle.std.specs.Prelude.{ℕ, List, [], ◌∷◌, ◌++◌, length, Bool, true, false, cond, nat_le, nat_eq}
-use Rattle.input.specs.declared.plain.RawLine.{RawLine}
-use Rattle.input.specs.declared.plain.RawLine.TheVariants.{Kept, Long}
+
+-- a line without its end, or one of over 4,096 bytes
+pub data RawLine : Type 0 where
+  Kept : List ℕ → RawLine
+  Long : RawLine
 
 -- a line of at most 4,096 bytes is kept
 abbrev pub line_of : List ℕ → RawLine

@@ -2,9 +2,7 @@
 use Rattle.std.specs.Prelude.{◌≡◌, ℕ, List, Option}
 use Rattle.input.specs.declared.line.LineRead.{LineRead}
 use Rattle.input.specs.declared.line.LineRead.TheVariants.{Line, TooLong, Ended, SourceFault, OverBudget}
-use Rattle.input.specs.declared.plain.RawLine.{RawLine}
-use Rattle.input.specs.declared.plain.RawLine.TheVariants.{Kept, Long}
-use Rattle.input.specs.Lines.{raw_lines}
+use Rattle.input.specs.Lines.{RawLine, Kept, Long, raw_lines}
 use Rattle.input.specs.Reading.{Reading, ReadsItem, MeetsEnd, StopsAtFault, StopsOverBudget}
 
 -- what the answer of a call that reads a line says

@@ -4,9 +4,7 @@
 mod line;
 mod line_buffer;
 mod piece;
-mod plain;
 mod reader;
 
 pub use line::{LineRead, next_line};
-pub use plain::{RawLine, plain_lines};
 pub use reader::{Reader, Stop};

@@ -1,10 +1,9 @@
 //! Reads a line.
 
 ghost use Rattle.std.specs.Prelude.{◌≡◌, ◌≤◌, if◌then◌else◌};
-ghost use Rattle.site_text.specs.Causes.{Rose};
-ghost use Rattle.input.specs.Lines.{line_of};
+ghost use Rattle.base.specs.Causes.{Rose};
+ghost use Rattle.input.specs.Lines.{Long, line_of};
 ghost use Rattle.input.specs.Reads.{ReadsLine, TellsLine};
-ghost use Rattle.input.specs.declared.plain.RawLine.TheVariants.{Long};
 
 use crate::line_buffer::LONGEST_LINE;
 use crate::reader::{Reader, Stop};

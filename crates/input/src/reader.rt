@@ -1,7 +1,7 @@
 //! Takes bytes from a source, within a budget.
 
 ghost use Rattle.std.specs.Prelude.{◌≡◌, ◌≤◌, ◌<◌, ◌↔◌, [], ◌∷◌, ◌++◌, length, IsTrue, Err, IfOk};
-ghost use Rattle.site_text.specs.Causes.{Rose};
+ghost use Rattle.base.specs.Causes.{Rose};
 ghost use Rattle.input.specs.Lines.{without_return};
 ghost use Rattle.input.specs.Reading.{Begins};
 ghost use Rattle.input.specs.Bytes.{NextIs, Refills};

@@ -1,4 +1,4 @@
 pub mod RecordLaws
 pub mod Held
 pub mod Append
-pub mod Reopening
+pub mod Reading

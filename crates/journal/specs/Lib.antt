@@ -1,4 +1,5 @@
 pub mod Records
 pub mod State
-pub mod Refusals
+pub mod Calls
+pub mod Readers
 pub mod Inside

@@ -1,8 +1,8 @@
 //! The gate of a record.
 
-ghost use Rattle.std.specs.Prelude.{◌≡◌, ◌^◌, ◌<◌, IsTrue, OnOk, OnErr};
-ghost use Rattle.site_text.specs.Causes.{HasCause};
+ghost use Rattle.std.specs.Prelude.{◌≡◌, ◌^◌, ◌<◌, IsTrue, OnOk};
 ghost use Rattle.bank.specs.View.{Wrote, OnlyContent};
+ghost use Rattle.journal.specs.Calls.{AreCounted};
 
 use bank::{Bank, BankFailed};
 
@@ -12,9 +12,7 @@ pub fn open_gate<B: Bank>(bank: &mut B, place: u64) -> Result<(), BankFailed>
     ensures wrote { IsTrue B.tells → Wrote 0 place 1 (B.view bank.old) (B.view bank.new) }
     ensures opened { IsTrue B.tells → OnOk result ((B.view bank.new).content 0 place ≡ 1) }
     ensures durable { IsTrue B.tells → OnOk result (OnlyContent 0 (B.view bank.new)) }
-    ensures cause { HasCause (B.faults bank.old) (B.faults bank.new) result }
-    ensures area { OnErr result (B.last_fault bank.new ≡ 0) }
-    ensures last { OnOk result (B.last_fault bank.new ≡ B.last_fault bank.old) }
+    ensures counted { AreCounted B.faults B.journal_faults B.last_fault bank.old bank.new result }
 {
     bank.write(0, place, &[1])?;
     bank.sync(0)

@@ -1,18 +1,14 @@
 //! The journal's value.
 
-ghost use Rattle.std.specs.Prelude.{◌≡◌, ◌≢◌, ◌+◌, ◌^◌, ◌<◌, ◌≤◌, ◌++◌, ◌↔◌, ◌⊎◌, [], ◌∷◌, List as Seq, ℕ, IsTrue, length, OnOk, OnErr, IfOk, IfErr, IsErrOf, All};
-ghost use Rattle.site_text.specs.Causes.{Rose};
-ghost use Rattle.bank.specs.View.{Wrote, OnlyRead, OnlyContent, LeavesOnly};
-ghost use Rattle.journal.specs.Records.{IsPayload, HoldsRecords, AllHold, IsBeforeOrAfter, IsBadAt, end_of};
-ghost use Rattle.journal.specs.Refusals.{IfBadRecord};
+ghost use Rattle.std.specs.Prelude.{◌≡◌, ◌≢◌, ◌+◌, ◌^◌, ◌<◌, ◌≤◌, ◌++◌, ◌↔◌, [], ◌∷◌, List as Seq, ℕ, IsTrue, length, OnOk, OnErr, IfOk, IsErrOf, vec_capacity};
+ghost use Rattle.base.specs.Causes.{Rose};
+ghost use Rattle.bank.specs.View.{Wrote, LeavesOnly};
+ghost use Rattle.journal.specs.Records.{IsPayload, AllHold, IsBeforeOrAfter, end_of};
 
 use crate::gate::open_gate;
-use crate::reading::read_records;
-use crate::refusal::{AppendRefusal, JournalRefusal};
+use crate::refusal::AppendRefusal;
 use crate::writing::{BUFFER_ROOM, stage};
 use bank::Bank;
-use site_text::{Bytes, List};
-use std::alloc::Global;
 use std::marker::Model;
 
 /// The most bytes of a journal's area.
@@ -42,49 +38,22 @@ impl Model for Journal {
 }
 
 impl Journal {
-    /// Reopens the journal in the first `size` bytes of area 0, at most 268,435,456: it syncs the area, and
-    /// then reads the records up to the first closed gate or the area's end. It gives their payloads. It writes
-    /// nothing.
-    pub fn reopen<B: Bank>(
-        alloc: Global,
-        bank: &mut B,
-        size: u64,
-    ) -> Result<(Journal, List<Bytes>), JournalRefusal>
-        requires { size ≤ AREA_MAX }
-
-        // No byte and no image comes that was not there, and at `Ok` a crash leaves of the area what was read.
-        ensures unchanged { IsTrue B.tells → OnlyRead (B.view bank.old) (B.view bank.new) }
-        ensures durable { IsTrue B.tells → OnOk result (OnlyContent 0 (B.view bank.new)) }
-
-        // The payloads are those of the records that the area holds, and the journal stands behind them.
-        ensures records { IsTrue B.tells → IfOk result (λ r. HoldsRecords ((B.view bank.new).content 0) 0 r.1 size) }
-        ensures payloads { IfOk result (λ r. All IsPayload r.1) }
-        ensures place { IfOk result (λ r. r.0.place ≡ end_of 0 r.1) }
-        ensures size { IfOk result (λ r. r.0.size ≡ size) }
-        ensures count { IfOk result (λ r. r.0.count ≡ length r.1) }
-
-        // A bad record is answered where one stands, and there nothing else than it, a fault or want of memory.
-        ensures bad { IsTrue B.tells → IfErr result (λ e. IfBadRecord e (λ place payloads. IsBadAt ((B.view bank.new).content 0) place size payloads)) }
-        ensures bad_place { IfErr result (λ e. IfBadRecord e (λ place payloads. (place ≡ end_of 0 payloads) × (place < size) × All IsPayload payloads)) }
-        ensures exact { IsTrue B.tells → (place : ℕ) (payloads : Seq (Seq ℕ)) → IsBadAt ((B.view bank.new).content 0) place size payloads → OnOk result ⊥ }
-
-        // A fault is answered only where the store counted one, and the last was in area 0.
-        ensures later { B.faults bank.old ≤ B.faults bank.new }
-        ensures fault { IsErrOf result JournalRefusal.BankFault → Rose (B.faults bank.old) (B.faults bank.new) }
-        ensures area { IsErrOf result JournalRefusal.BankFault → B.last_fault bank.new ≡ 0 }
-        ensures last { IsErrOf result JournalRefusal.BankFault ⊎ (B.last_fault bank.new ≡ B.last_fault bank.old) }
+    // A journal whose next record goes to this place, behind so many records.
+    pub(crate) fn behind(place: u64, size: u64, count: u64, buffer: Vec<u8>) -> Self
+        requires size { size ≤ AREA_MAX }
+        requires fits { place ≤ size }
+        requires few { count ≤ place }
+        requires room { BUFFER_ROOM ≤ vec_capacity buffer }
+        ensures place { result.place ≡ place }
+        ensures size { result.size ≡ size }
+        ensures count { result.count ≡ count }
     {
-        let buffer = Vec::with_capacity(alloc, BUFFER_ROOM)?;
-        bank.sync(0)?;
-        let (place, payloads) = read_records(alloc, bank, size)?;
-        let count = payloads.len() as u64;
-        let journal = Journal {
+        Journal {
             place,
             size,
             count,
             buffer,
-        };
-        Ok((journal, payloads))
+        }
     }
 
     /// The bytes of its area, at most 268,435,456.
@@ -137,7 +106,9 @@ impl Journal {
 
         // A fault is answered only where the store counted one, and the last was in area 0.
         ensures later { B.faults bank.old ≤ B.faults bank.new }
+        ensures journal_later { B.journal_faults bank.old ≤ B.journal_faults bank.new }
         ensures fault { IsErrOf result AppendRefusal.BankFault → Rose (B.faults bank.old) (B.faults bank.new) }
+        ensures journal_fault { IsErrOf result AppendRefusal.BankFault → Rose (B.journal_faults bank.old) (B.journal_faults bank.new) }
         ensures area { IsErrOf result AppendRefusal.BankFault → B.last_fault bank.new ≡ 0 }
         ensures last { OnOk result (B.last_fault bank.new ≡ B.last_fault bank.old) }
     {

@@ -8,10 +8,11 @@
 
 mod gate;
 mod journal;
-mod reading;
+mod reader;
 mod refusal;
+mod window;
 mod writing;
 
 pub use journal::{AREA_MAX, Journal};
-pub use reading::PAYLOAD_MAX;
+pub use reader::{Found, PAYLOAD_MAX, Reader};
 pub use refusal::{AppendRefusal, JournalRefusal};

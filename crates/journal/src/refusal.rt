@@ -5,17 +5,13 @@ ghost use Rattle.journal.specs.declared.refusal.AppendRefusal.TheVariants.{BankF
 ghost use Rattle.journal.specs.declared.refusal.JournalRefusal.TheVariants.{BankFault as reopen_fault, NoMemory};
 
 use bank::BankFailed;
-use site_text::{Bytes, List};
 use std::alloc::{AllocError, AllocFailed};
 
-/// Why a journal is not reopened.
-#[derive(Drop)]
+/// Why the reading of a journal does not begin.
+#[derive(Clone, Copy, Debug, PartialEq, Eq)]
 pub enum JournalRefusal {
     /// A call of the store failed, and the store counted it.
     BankFault,
-    /// At this place an open gate has a length that no record there has. The payloads are those of the records
-    /// before it.
-    BadRecord { place: u64, payloads: List<Bytes> },
     /// Memory was wanting.
     NoMemory,
 }

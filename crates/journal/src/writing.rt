@@ -1,9 +1,9 @@
 //! The writes of an append.
 
-ghost use Rattle.std.specs.Prelude.{◌≡◌, ◌+◌, ◌^◌, ◌<◌, ◌≤◌, ◌++◌, [], ◌∷◌, IsTrue, length, OnOk, OnErr, vec_capacity};
-ghost use Rattle.site_text.specs.Causes.{HasCause};
+ghost use Rattle.std.specs.Prelude.{◌≡◌, ◌+◌, ◌^◌, ◌<◌, ◌≤◌, ◌++◌, [], ◌∷◌, IsTrue, length, OnOk, vec_capacity};
 ghost use Rattle.bank.specs.Content.{Stands};
 ghost use Rattle.bank.specs.View.{Wrote, OnlyContent};
+ghost use Rattle.journal.specs.Calls.{AreCounted};
 ghost use Rattle.journal.specs.Records.{frame};
 
 use bank::{Bank, BankFailed};
@@ -40,9 +40,7 @@ fn write_short<B: Bank>(
     requires room { BUFFER_ROOM ≤ vec_capacity buffer.old }
     ensures wrote { IsTrue B.tells → Wrote 0 (place + 1) (5 + length payload.now) (B.view bank.old) (B.view bank.new) }
     ensures framed { IsTrue B.tells → OnOk result (Stands ((B.view bank.new).content 0) (place + 1) (frame payload.now ++ 0 ∷ [])) }
-    ensures cause { HasCause (B.faults bank.old) (B.faults bank.new) result }
-    ensures area { OnErr result (B.last_fault bank.new ≡ 0) }
-    ensures last { OnOk result (B.last_fault bank.new ≡ B.last_fault bank.old) }
+    ensures counted { AreCounted B.faults B.journal_faults B.last_fault bank.old bank.new result }
     ensures room { BUFFER_ROOM ≤ vec_capacity buffer.new }
 {
     fill(buffer, payload);
@@ -54,9 +52,7 @@ fn write_long<B: Bank>(bank: &mut B, place: u64, payload: &[u8]) -> Result<(), B
     requires { place + 6 + length payload.now ≤ 2 ^ 28 }
     ensures wrote { IsTrue B.tells → Wrote 0 (place + 1) (5 + length payload.now) (B.view bank.old) (B.view bank.new) }
     ensures framed { IsTrue B.tells → OnOk result (Stands ((B.view bank.new).content 0) (place + 1) (frame payload.now ++ 0 ∷ [])) }
-    ensures cause { HasCause (B.faults bank.old) (B.faults bank.new) result }
-    ensures area { OnErr result (B.last_fault bank.new ≡ 0) }
-    ensures last { OnOk result (B.last_fault bank.new ≡ B.last_fault bank.old) }
+    ensures counted { AreCounted B.faults B.journal_faults B.last_fault bank.old bank.new result }
 {
     let length = (payload.len() as u32).to_le_bytes();
     bank.write(0, place + 1, &length)?;
@@ -76,9 +72,7 @@ pub fn stage<B: Bank>(
     ensures wrote { IsTrue B.tells → Wrote 0 (place + 1) (5 + length payload.now) (B.view bank.old) (B.view bank.new) }
     ensures framed { IsTrue B.tells → OnOk result (Stands ((B.view bank.new).content 0) (place + 1) (frame payload.now ++ 0 ∷ [])) }
     ensures durable { IsTrue B.tells → OnOk result (OnlyContent 0 (B.view bank.new)) }
-    ensures cause { HasCause (B.faults bank.old) (B.faults bank.new) result }
-    ensures area { OnErr result (B.last_fault bank.new ≡ 0) }
-    ensures last { OnOk result (B.last_fault bank.new ≡ B.last_fault bank.old) }
+    ensures counted { AreCounted B.faults B.journal_faults B.last_fault bank.old bank.new result }
     ensures room { BUFFER_ROOM ≤ vec_capacity buffer.new }
 {
     if payload.len() <= SHORT_MAX {

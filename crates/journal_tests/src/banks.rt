@@ -1,5 +1,5 @@
 use bank::{Bank, BankCall, FailAt, FileBank, FileBankRefusal, MemoryBank};
-use site_text::List;
+use base::List;
 use std::fs;
 use std::test::Fail;
 

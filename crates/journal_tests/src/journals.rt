@@ -1,26 +1,22 @@
 //! Tests of the journal over a store in memory. The values come from the format.
 
 use bank::{Bank, BankCall, FailAt, MemoryBank};
-use journal::{AppendRefusal, Journal, JournalRefusal};
-use site_text::{Bytes, List};
+use base::List;
+use journal::{AppendRefusal, Found, Journal, JournalRefusal, Reader};
 use std::alloc::{AllocError, Global};
 use std::process::Abort;
 use std::test::Fail;
 
-// The payloads as a text: the bytes of short ones, the lengths of others.
-fn listed(alloc: Global, payloads: &List<Bytes>) -> Result<String, AllocError> {
-    let mut text = String::new(alloc);
-    for payload in payloads.as_slice() {
-        text = if payload.len() < 8 {
-            format!(in alloc; "{text} {:?}", payload.as_slice())?
-        } else {
-            format!(in alloc; "{text} {}", payload.len())?
-        };
+// A text with one payload more: the bytes of a short one, the length of another.
+fn with_payload(alloc: Global, text: &String, payload: &[u8]) -> Result<String, AllocError> {
+    if payload.len() < 8 {
+        format!(in alloc; "{text} {payload:?}")
+    } else {
+        format!(in alloc; "{text} {}", payload.len())
     }
-    Ok(text)
 }
 
-// What a reopening in so many bytes answers.
+// What a reading of all records in so many bytes answers.
 fn reopened(
     rt: &impl Abort,
     alloc: Global,
@@ -28,18 +24,35 @@ fn reopened(
     size: u64,
 ) -> Result<String, AllocError> {
     assert!(rt; size <= 268435456);
-    match Journal::reopen(alloc, bank, size) {
-        Ok((_, payloads)) => {
-            let records = listed(alloc, &payloads)?;
-            format!(in alloc; "ok{records}")
+    let mut reader = match Reader::open(alloc, bank, size) {
+        Ok(reader) => reader,
+        Err(JournalRefusal::BankFault) => return String::from_str(alloc, "fault"),
+        Err(JournalRefusal::NoMemory) => return String::from_str(alloc, "no memory"),
+    };
+    let mut records = String::new(alloc);
+    for _ in 0..100 {
+        match reader.advance(bank) {
+            Ok(Found::Record) => records = with_payload(alloc, &records, reader.payload())?,
+            Ok(Found::End) => return format!(in alloc; "ok{records}"),
+            Ok(Found::BadLength) => return format!(in alloc; "bad {}{records}", reader.place()),
+            Err(_) => return String::from_str(alloc, "fault"),
         }
-        Err(JournalRefusal::BadRecord { place, payloads }) => {
-            let records = listed(alloc, &payloads)?;
-            format!(in alloc; "bad {place}{records}")
-        }
-        Err(JournalRefusal::BankFault) => String::from_str(alloc, "fault"),
-        Err(JournalRefusal::NoMemory) => String::from_str(alloc, "no memory"),
     }
+    String::from_str(alloc, "no end")
+}
+
+// The journal behind all records in so many bytes.
+fn journal_of(rt: &impl Abort, alloc: Global, bank: &mut MemoryBank, size: u64) -> Option<Journal> {
+    assert!(rt; size <= 268435456);
+    let mut reader = Reader::open(alloc, bank, size).ok()?;
+    for _ in 0..100 {
+        match reader.advance(bank) {
+            Ok(Found::Record) => {}
+            Ok(Found::End) => return Some(reader.into_journal()),
+            _ => return None,
+        }
+    }
+    None
 }
 
 // What appending so many bytes answers.
@@ -55,12 +68,9 @@ fn appended(
     Ok(journal.append(bank, &payload))
 }
 
-// How many writes were made.
-fn writes(bank: &MemoryBank) -> usize {
-    bank.calls()
-        .iter()
-        .filter(|c| c.kind == BankCall::Write)
-        .count()
+// How many calls of a kind were made.
+fn made(bank: &MemoryBank, kind: BankCall) -> usize {
+    bank.calls().iter().filter(|c| c.kind == kind).count()
 }
 
 #[test]
@@ -106,10 +116,9 @@ fn appends_until_it_is_full(rt: HostRuntime) -> Result<(), Fail> {
         (64, [10, 43, 1], 2, 4, "ok 10 43"),
         (20000, [4096, 4097, 5], 3, 8, "ok 4096 4097 [7, 7, 7, 7, 7]"),
     ];
-    for (size, lengths, last, made, expected) in rows {
+    for (size, lengths, last, writes, expected) in rows {
         let mut bank = MemoryBank::new(rt.alloc(), List::new(rt.alloc()))?;
-        assert!(rt; size <= 20000);
-        let Ok((mut journal, _)) = Journal::reopen(rt.alloc(), &mut bank, size) else {
+        let Some(mut journal) = journal_of(&rt, rt.alloc(), &mut bank, size) else {
             panic!(rt; "not reopened");
         };
         let mut number = 0;
@@ -120,7 +129,7 @@ fn appends_until_it_is_full(rt: HostRuntime) -> Result<(), Fail> {
             }
         }
         assert_eq!(rt; number, last, "of {size}");
-        assert_eq!(rt; writes(&bank), made, "of {size}");
+        assert_eq!(rt; made(&bank, BankCall::Write), writes, "of {size}");
         let answer = reopened(&rt, rt.alloc(), &mut bank, size)?;
         assert_eq!(rt; answer.as_str(), expected);
     }
@@ -146,16 +155,33 @@ fn fails_with_the_store(rt: HostRuntime) -> Result<(), Fail> {
             number,
         })?;
         let mut bank = MemoryBank::new(rt.alloc(), fail)?;
-        match Journal::reopen(rt.alloc(), &mut bank, 64) {
-            Ok((mut journal, _payloads)) => {
+        match journal_of(&rt, rt.alloc(), &mut bank, 64) {
+            Some(mut journal) => {
                 let answer = appended(&rt, rt.alloc(), &mut journal, &mut bank, 2)?;
                 assert_eq!(rt; answer, Err(AppendRefusal::BankFault));
                 assert!(rt; !at_once);
             }
-            Err(_refusal) => assert!(rt; at_once),
+            None => assert!(rt; at_once),
         }
         let answer = reopened(&rt, rt.alloc(), &mut bank, 64)?;
         assert_eq!(rt; answer.as_str(), expected);
     }
+    Ok(())
+}
+
+#[test]
+fn reads_in_large_pieces(rt: HostRuntime) -> Result<(), Fail> {
+    let mut bank = MemoryBank::new(rt.alloc(), List::new(rt.alloc()))?;
+    let Some(mut journal) = journal_of(&rt, rt.alloc(), &mut bank, 4_000_000) else {
+        panic!(rt; "not reopened");
+    };
+    for _ in 0..12 {
+        let answer = appended(&rt, rt.alloc(), &mut journal, &mut bank, 200_000)?;
+        assert!(rt; answer.is_ok());
+    }
+    let before = made(&bank, BankCall::Read);
+    let answer = reopened(&rt, rt.alloc(), &mut bank, 4_000_000)?;
+    assert_eq!(rt; answer.len(), 2 + 12 * 7);
+    assert_eq!(rt; made(&bank, BankCall::Read) - before, 3);
     Ok(())
 }

@@ -1,11 +1,11 @@
 //! A folder of texts.
 
 ghost use Rattle.std.specs.Prelude.{◌≡◌, ◌≤◌, ℕ, List, Option, IfSome};
-ghost use Rattle.site_text.specs.Causes.{Rose};
+ghost use Rattle.base.specs.Causes.{Rose};
 ghost use Rattle.outside.specs.Folders.{Answers};
 ghost use Rattle.outside.specs.declared.folder.NamedText.{NamedText};
 
-use site_text::Bytes;
+use base::Bytes;
 
 /// The longest front of a text that is read: one byte more than a text may have.
 pub const LONGEST_READ: usize = 65_537;

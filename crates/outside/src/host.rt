@@ -4,6 +4,7 @@ mod clock;
 mod folder;
 mod input;
 mod output;
+mod tries;
 
 pub use clock::SystemClock;
 pub use folder::DiskFolder;

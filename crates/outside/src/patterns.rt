@@ -1,7 +1,7 @@
 //! Patterns over names.
 
 ghost use Rattle.std.specs.Prelude.{◌≡◌, ◌≤◌, ℕ, Bool, List, IfOk};
-ghost use Rattle.site_text.specs.Causes.{Rose};
+ghost use Rattle.base.specs.Causes.{Rose};
 ghost use Rattle.outside.specs.Refusals.{refused_after};
 
 /// Why a pattern was not built, or a subject not searched.

@@ -3,7 +3,7 @@
 ghost use Rattle.std.specs.Prelude.{◌≡◌, ◌-◌, ◌≤◌, ◌<◌, ℕ, List, Option, length};
 ghost use Rattle.std.specs.Io.{ReadsAtMost};
 ghost use Rattle.std.specs.Io.KnownBytes.{ReadConsumes, WriteAppends};
-ghost use Rattle.site_text.specs.Causes.{HasCause};
+ghost use Rattle.base.specs.Causes.{HasCause};
 ghost use Rattle.outside.specs.Streams.{Beside, TakesSome, WritesAll};
 
 /// A call failed, and the object counted it.
@@ -48,7 +48,7 @@ pub trait Sink: Drop {
         ensures beside { beside self.new ≡ beside self.old };
 }
 
-/// Writes all of the bytes, in as many pieces as the sink takes. At a fault a first part of them was written.
+/// Writes all of the bytes, in as many pieces as the sink takes. At a fault a first part of them was written, and not all.
 pub fn write_all<K: Sink>(sink: &mut K, bytes: &[u8]) -> Result<(), Failed>
     ensures bytes { WritesAll (K.written sink.old) (K.written sink.new) result bytes.now }
     ensures cause { HasCause (K.faults sink.old) (K.faults sink.new) result }

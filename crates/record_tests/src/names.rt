@@ -1,6 +1,6 @@
 //! Paths and names that files may have, and others.
 
-use records::{is_legal_name, is_legal_path};
+use base::{is_legal_name, is_legal_path};
 
 #[test]
 fn paths_and_names(rt: HostRuntime) {

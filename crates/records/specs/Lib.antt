@@ -2,7 +2,6 @@
 pub mod Copies
 pub mod Forms
 pub mod Lengths
-pub mod Paths
 pub mod Ranges
 pub mod Reading
 pub mod Texts

@@ -10,7 +10,7 @@ use crate::write::{
     flag_code, release_code, stage_code, truth_code, write_byte, write_ends, write_inodes,
     write_members, write_number, write_runs, write_text,
 };
-use site_text::{Bytes, List};
+use base::{Bytes, List};
 use std::alloc::AllocError;
 
 #[tactic(auto, unfolding(crate::specs::Written::configured))]

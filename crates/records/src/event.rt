@@ -1,7 +1,7 @@
 //! What a site is asked.
 
 use crate::file::{Flag, ReleaseKind, SiteTexts, StageKind};
-use site_text::Bytes;
+use base::Bytes;
 
 /// One of the four daemons.
 #[derive(Clone, Copy, Debug, PartialEq, Eq)]

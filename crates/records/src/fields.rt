@@ -9,7 +9,7 @@ ghost use Rattle.records.specs.Written.{number, moment, inode, copy, index, rele
 use crate::file::{Flag, ReleaseKind, Run, Section, StageKind};
 use crate::refusal::StepRefusal;
 use crate::step::{Member, VolumeEnd};
-use site_text::{Bytes, List};
+use base::{Bytes, List};
 use std::alloc::Global;
 
 #[tactic(auto, unfolding(crate::specs::Forms::number_at))]

@@ -7,7 +7,6 @@ mod encode;
 mod event;
 mod fields;
 mod file;
-mod names;
 mod refusal;
 mod reply;
 mod step;
@@ -21,7 +20,6 @@ pub use file::{
     CopyRec, CopySlot, CopySlots, FileRec, Flag, ReleaseKind, Run, Section, SiteTexts, StageKind,
     VolumeRec,
 };
-pub use names::{is_legal_name, is_legal_path};
 pub use refusal::StepRefusal;
 pub use reply::{
     CommandFile, FileRow, FileState, IdleCause, LineRefusal, QueueRow, Reply, Rule, SetRow,

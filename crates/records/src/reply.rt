@@ -1,7 +1,8 @@
 //! What a site answers.
 
 use crate::event::Daemon;
-use site_text::{Bytes, ConfFault, List};
+use base::{Bytes, List};
+use site_text::ConfFault;
 
 /// The name of a volume in a reply, which takes no memory.
 #[derive(Clone, Copy, Debug)]

@@ -1,7 +1,7 @@
 //! The steps of a site's history, one of 17 kinds each.
 
 use crate::file::{Flag, ReleaseKind, Run, Section, SiteTexts, StageKind};
-use site_text::{Bytes, List};
+use base::{Bytes, List};
 
 /// A file of an archive run.
 #[derive(Drop)]

@@ -1,8 +1,8 @@
 //! The line `configure` over memory.
 
 use crate::tests::{Case, expect_over, fresh, one, plain};
+use base::{Bytes, List};
 use outside::{MemoryFolder, NamedText};
-use site_text::{Bytes, List};
 use std::alloc::Global;
 use std::test::Fail;
 

@@ -1,11 +1,13 @@
 //! The objects of the host, made for the top call.
 
+use crate::folders::{make_folders, sync_names};
 use crate::top::{is_form, samq};
 use bank::{FileBank, FileBankRefusal};
+use base::List;
 use outside::{DiskFolder, LiteralPatterns, StandardInput, StandardOutput, SystemClock};
-use site_text::List;
 use std::alloc::AllocError;
 use std::fs::File;
+use std::os::fd::AsRawFd;
 use std::rt::{Env, Files};
 use std::{env, fs, io};
 
@@ -43,12 +45,22 @@ fn words(rt: &HostRuntime) -> io::Result<Vec<String>> {
     Ok(words)
 }
 
-// Brings the list of a folder's names to the medium, and tells whether that succeeded.
-fn is_synced(rt: &HostRuntime, folder: &str) -> bool {
-    match fs::open(rt, folder) {
-        Ok(file) => file.sync_all().is_ok(),
-        Err(_) => false,
+// Takes the numbers of those standard streams that are closed, since the next file that is opened would get the lowest of them,
+// and answers would be written into it. A folder that is open for reading stands there: it takes no bytes and gives none.
+fn hold_closed_streams(rt: &HostRuntime) -> Result<Vec<File>, Refusal> {
+    let mut held = Vec::new(rt.alloc());
+    for _ in 0..3 {
+        let Ok(folder) = fs::open(rt, "/") else {
+            return Err(Refusal::Failed);
+        };
+        if folder.as_raw_fd() > 2 {
+            break;
+        }
+        if held.push(folder).is_err() {
+            return Err(Refusal::NoMemory);
+        }
     }
+    Ok(held)
 }
 
 // Opens the store in the folder `bank` of a folder; both are made if they are not there.
@@ -58,7 +70,7 @@ fn open_bank(rt: &HostRuntime, folder: &str) -> Result<FileBank<HostRuntime>, Re
         return Err(Refusal::Failed);
     }
     let path = format!(in rt.alloc(); "{folder}/bank")?;
-    if fs::create_dir_all(rt, path.as_str()).is_err() || !is_synced(rt, folder) {
+    if make_folders(rt, path.as_str()).is_err() || sync_names(rt, folder).is_err() {
         return Err(Refusal::Failed);
     }
     Ok(FileBank::open(rt.clone()?, rt.alloc(), path.as_str())?)
@@ -67,6 +79,7 @@ fn open_bank(rt: &HostRuntime, folder: &str) -> Result<FileBank<HostRuntime>, Re
 // Answers standard input over the store of the folder.
 fn answer(rt: &HostRuntime, words: &[String], folder: &str) -> Result<u8, Refusal> {
     let alloc = rt.alloc();
+    let _held = hold_closed_streams(rt)?;
     let bank = open_bank(rt, folder)?;
     let mut clock = SystemClock::new(rt.clone()?);
     let mut texts = DiskFolder::new(alloc, rt.clone()?, folder)?;

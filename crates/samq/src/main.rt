@@ -1,6 +1,7 @@
 //! The program: answers the lines of standard input over the store of a folder.
 #![tactic(auto)]
 
+mod folders;
 mod host;
 mod top;
 

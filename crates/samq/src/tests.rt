@@ -2,9 +2,9 @@
 
 use crate::top::samq;
 use bank::{Bank, BankCall, FailAt, MemoryBank};
+use base::{Bytes, List};
 use outside::{LiteralPatterns, MemoryClock, MemoryFolder, MemorySink, MemorySource};
 use session::{Mark, run_lines};
-use site_text::{Bytes, List};
 use std::alloc::Global;
 use std::process::Abort;
 use std::test::Fail;
@@ -272,17 +272,33 @@ fn each_status_has_its_cause(rt: HostRuntime) -> Result<(), Fail> {
 }
 
 #[test]
-fn a_bad_journal_is_told(rt: HostRuntime) -> Result<(), Fail> {
+fn a_bad_journal_is_told_and_only_read(rt: HostRuntime) -> Result<(), Fail> {
     let alloc = rt.alloc();
-    let mut used = fresh(alloc)?;
-    // a record of five bytes, which are those of no step
-    let record = [1, 5, 0, 0, 0, 255, 0, 0, 0, 0];
-    assert!(rt; used.write(0, 0, &record).is_ok());
     let refused = Case {
         status: 2,
         ..plain(b"put /a u g hi\n", b"bad journal at 0\n", &[])
     };
-    expect(&rt, alloc, used, refused)?;
+    // the words are written in three calls, and then the digits
+    let cut = Case {
+        write: 4,
+        answers: b"bad journal at ",
+        ..refused
+    };
+    for case in [refused, cut] {
+        let mut used = fresh(alloc)?;
+        // a record of five bytes, which are those of no step
+        let record = [1, 5, 0, 0, 0, 255, 0, 0, 0, 0];
+        assert!(rt; used.write(0, 0, &record).is_ok());
+        let bank = expect(&rt, alloc, used, case)?;
+        let calls = bank.calls();
+        assert_eq!(rt;
+            calls
+                .iter()
+                .filter(|call| call.kind == BankCall::Write)
+                .count(),
+            1
+        );
+    }
     Ok(())
 }
 

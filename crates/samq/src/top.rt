@@ -5,12 +5,13 @@ ghost use Rattle.samq.specs.Words.{is_run};
 ghost use Rattle.site_history.specs.Steps.{HistoryStep};
 ghost use Rattle.site_history.specs.Images.{IsSettled};
 ghost use Rattle.session.specs.Session.{seen};
-ghost use Rattle.session.specs.Outcomes.{journal_bytes, IsOutcome, HasStatus};
+ghost use Rattle.site_history.specs.Journals.{IsBadJournal};
+ghost use Rattle.session.specs.Outcomes.{journal_bytes, IsRefused, IsOutcome, HasStatus};
 
 use bank::Bank;
+use base::List;
 use outside::{Clock, Folder, Patterns, Sink, Source};
 use session::{Outcome, run_lines};
-use site_text::List;
 use std::alloc::Global;
 
 /// How many bytes are read at the most.
@@ -44,17 +45,23 @@ pub fn samq<B: Bank, C: Clock, F: Folder, P: Patterns, I: Source, O: Sink>(
     // written, what ended the run, and what each crash meanwhile may leave.
     ensures outcome { is_run (map string_bytes words.now) ≡ true → (told : Bool) → (IsTrue told → IsTrue B.tells) → (before : Seq HistoryStep)
         → (IsTrue told → IsSettled journal_bytes (B.view bank) before)
-        → IsOutcome told 4294967296 (B.view bank) (B.view result.bank)
-        (seen I.left I.faults O.written O.faults F.texts F.faults B.faults B.view input.old output.old folder.old bank)
-        (seen I.left I.faults O.written O.faults F.texts F.faults B.faults B.view input.new output.new folder.new result.bank)
+        → IsOutcome told B.tells 4294967296 (B.view bank) (B.view result.bank)
+        (seen I.left I.faults O.written O.faults F.texts F.faults B.faults B.journal_faults B.last_fault B.view input.old output.old folder.old bank)
+        (seen I.left I.faults O.written O.faults F.texts F.faults B.faults B.journal_faults B.last_fault B.view input.new output.new folder.new result.bank)
         before result.marks result.status }
     // The causes of the status, over any store, and what the statuses 0, 2 and 7 mean.
     ensures status { is_run (map string_bytes words.now) ≡ true → HasStatus B.tells ((B.view bank).content 0) 4294967296
-        (seen I.left I.faults O.written O.faults F.texts F.faults B.faults B.view input.old output.old folder.old bank)
-        (seen I.left I.faults O.written O.faults F.texts F.faults B.faults B.view input.new output.new folder.new result.bank)
+        (seen I.left I.faults O.written O.faults F.texts F.faults B.faults B.journal_faults B.last_fault B.view input.old output.old folder.old bank)
+        (seen I.left I.faults O.written O.faults F.texts F.faults B.faults B.journal_faults B.last_fault B.view input.new output.new folder.new result.bank)
         result.status }
     // The journal of a settled store is never bad.
     ensures good { IsTrue B.tells → (before : Seq HistoryStep) → IsSettled journal_bytes (B.view bank) before → result.status ≢ 2 }
+    // A store whose journal is bad is refused, and only read.
+    ensures spared { is_run (map string_bytes words.now) ≡ true → IsTrue B.tells → (place : ℕ) → IsBadJournal journal_bytes ((B.view bank).content 0) place
+        → IsRefused B.tells (B.view bank) (B.view result.bank)
+        (seen I.left I.faults O.written O.faults F.texts F.faults B.faults B.journal_faults B.last_fault B.view input.old output.old folder.old bank)
+        (seen I.left I.faults O.written O.faults F.texts F.faults B.faults B.journal_faults B.last_fault B.view input.new output.new folder.new result.bank)
+        result.marks result.status }
     ensures untouched { is_run (map string_bytes words.now) ≡ false
         → (input.new ≡ input.old) × (output.new ≡ output.old) × (folder.new ≡ folder.old) × (result.bank ≡ bank) × (result.marks ≡ []) }
     ensures patterns { result.patterns ≡ patterns }

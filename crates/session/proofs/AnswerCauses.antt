@@ -1,7 +1,8 @@
 -- Which answers are a cause of a status.
 use Rattle.std.proofs.Common.{◌≡◌, ◌⊎◌, inl, inr, ℕ, ◌+◌, ◌≤◌, List, length, refl, ap, arith, Bool, true, false, not, cond, Option, Some, None, IfSome}
 use Rattle.std.specs.Prelude.{option_map}
-use Rattle.site_text.specs.Causes.{AreCounted}
+use Rattle.base.specs.Causes.{AreCounted}
+use Rattle.bank.specs.Content.{Content}
 use Rattle.records.specs.declared.event.Event.{Event}
 use Rattle.records.specs.declared.event.Event.TheVariants.{Put as PutEvent, Read as ReadEvent, Remove as RemoveEvent, Configure as ConfigureEvent}
 use Rattle.records.specs.declared.reply.Reply.{Reply}
@@ -10,7 +11,7 @@ use Rattle.records.specs.declared.reply.Rule.{Rule}
 use Rattle.records.specs.declared.file.FileRec.{FileRec}
 use Rattle.records.specs.declared.file.SiteTexts.{SiteTexts}
 use Rattle.configuration.specs.declared.read.FileRefusal.{FileRefusal}
-use Rattle.configuration.specs.Readings.{refusal_of, are_within}
+use Rattle.configuration.specs.ConfigurationSteps.{refusal_of, are_within}
 use Rattle.site_history.specs.Site.{Fields, FileBytes, Site, file_at}
 use Rattle.site_history.specs.Steps.{HistoryStep}
 use Rattle.site_history.specs.Answers.{Answer, answer_to, put_rule, put_answer_by, read_answer_of, remove_answer_of, conf_refused, has_files, configure_refusal, configure_answer, configure_answer_by}
@@ -90,12 +91,12 @@ turn_cause size told history event moment area (BadJournal place) w' turn = absu
 turn_cause size told history event moment area _ w' turn = inl refl
 
 -- An event tells no fault of the folder.
-no_folder_fault : (due : Bool) (size : ℕ) (told : Bool) (w : World) (event : Event) (now area : ℕ) (w' : World) → EventTurnBy due size told w event now area FolderFault w' → ⊥
-no_folder_fault false size told w event now area w' turn = omega (arith, same_cause told _ FolderFault turn.0, machine_calm size w.history (moment_of w.clock now) event)
-no_folder_fault true size told w event now area w' (inl (steps, reopened, turn)) = omega (arith, same_cause told _ FolderFault turn.0, machine_calm size steps (moment_of (clock_from told w steps) now) event)
-no_folder_fault true size told w event now area w' (inr (refuses, same)) = refuses
+no_folder_fault : (due : Bool) (size : ℕ) (told : Bool) (w : World) (event : Event) (now area : ℕ) (journal : Content) (w' : World) → EventTurnBy due size told w event now area journal FolderFault w' → ⊥
+no_folder_fault false size told w event now area journal w' turn = omega (arith, same_cause told _ FolderFault turn.0, machine_calm size w.history (moment_of w.clock now) event)
+no_folder_fault true size told w event now area journal w' (inl (steps, reopened, turn)) = omega (arith, same_cause told _ FolderFault turn.0, machine_calm size steps (moment_of (clock_from told w steps) now) event)
+no_folder_fault true size told w event now area journal w' (inr (refuses, same)) = refuses
 
-pub event_folder : (size : ℕ) (told : Bool) (w : World) (event : Event) (now area : ℕ) (reply : Reply) (w' : World) (before after : ℕ) → EventTurn size told w event now area reply w' → before ≤ after
+pub event_folder : (size : ℕ) (told : Bool) (w : World) (event : Event) (now area : ℕ) (journal : Content) (reply : Reply) (w' : World) (before after : ℕ) → EventTurn size told w event now area journal reply w' → before ≤ after
     → AreCounted before (folder_faults_of reply) after
-event_folder size told w event now area FolderFault w' before after turn later = absurd (no_folder_fault w.due size told w event now area w' turn)
-event_folder size told w event now area _ w' before after turn later = omega (arith, later)
+event_folder size told w event now area journal FolderFault w' before after turn later = absurd (no_folder_fault w.due size told w event now area journal w' turn)
+event_folder size told w event now area journal _ w' before after turn later = omega (arith, later)

@@ -3,7 +3,7 @@ use Rattle.std.proofs.Common.{◌≡◌, ◌⊎◌, inl, inr, ℕ, ◌+◌, ◌�
 use Rattle.std.proofs.lemmas.List.{append-nil}
 use Rattle.std.proofs.KnownBytes.{Appends-nil, Appends-trans}
 use Rattle.std.specs.Io.KnownBytes.{Appends}
-use Rattle.site_text.specs.Causes.{AreCounted}
+use Rattle.base.specs.Causes.{AreCounted}
 use Rattle.outside.specs.declared.folder.NamedText.{NamedText}
 use Rattle.bank.specs.Content.{Image}
 use Rattle.bank.specs.View.{View, IsImage, IsSound}
@@ -13,7 +13,7 @@ use Rattle.input.proofs.Steps.{stays, then_moved}
 use Rattle.site_history.specs.Worlds.{World}
 use Rattle.site_history.specs.Images.{ReadsAs}
 use Rattle.session.specs.Asking.{Request}
-use Rattle.session.specs.Rounds.{Stage, Round, IsRoundOf, IsRun, stage_after, asked, output, AreInTime, mark_of, marks_from, cause_of, first_of, status_from, faults_of, faults_in, folder_faults_of, folder_faults_in, calm}
+use Rattle.session.specs.Rounds.{Stage, Round, IsRoundOf, IsRun, stage_after, asked, output, AreInTime, mark_of, marks_from, cause_of, first_of, status_from, faults_of, faults_in, journal_faults_of, journal_faults_in, IsLastArea, JournalsStood, folder_faults_of, folder_faults_in, calm}
 use Rattle.session.specs.Machine.{AreTold, machine_run, texts_told}
 use Rattle.session.specs.Kept.{AreKept}
 use Rattle.session.specs.Session.{Outside, IsSession, Ends, status_of}
@@ -23,9 +23,9 @@ use Rattle.session.specs.Ran.{Ran}
 use Rattle.session.specs.declared.kept.Mark.{Mark}
 use Rattle.session.specs.declared.kept.Ending.{Ending}
 use Rattle.session.specs.declared.kept.Ending.TheVariants.{Ended, Closed, SourceFault, SinkFault, OverBudget, NoMemory}
-use Rattle.session.proofs.RoundLaws.{run_more, after_more, asked_more, output_more, marks_more, marks-length, in_time_more, status_then, status_more, faults_more, folder_faults_more, counted_more, first_none, go_on_more}
+use Rattle.session.proofs.RoundLaws.{run_more, after_more, asked_more, output_more, marks_more, marks-length, in_time_more, status_then, status_more, faults_more, journal_faults_more, last_area_more, folder_faults_more, counted_more, first_none, go_on_more}
 use Rattle.session.proofs.MachineLaws.{fixed_run}
-use Rattle.session.proofs.KeptLaws.{kept_begun, kept_more}
+use Rattle.session.proofs.KeptLaws.{kept_begun, kept_more, stood_more}
 
 -- A test is true or false.
 cases : (b : Bool) → (b ≡ true) ⊎ (b ≡ false)
@@ -46,7 +46,7 @@ module _ (Asks : Items Request) (Stands : World → Type 0) (tells : Bool) (size
     ]
 
     at_read : (source_faults : ℕ) → start.held ≡ [] → start.ended ≡ false → reader'.held ≡ [] → Asks used reader'.ended ≡ [] → (reader.ended ≡ true → used ≡ []) → (ending : Ending)
-        → Ends start.budget old (record now { left = left'; source_faults = source_faults }) all_moved.more beyond reader'.ended r.rounds [] [] [] ending
+        → Ends start.budget old (record now { left = left'; source_faults = source_faults }) all_moved.more beyond reader'.ended r.rounds [] [] [] [] ending
         → IsSession Asks Stands tells size start.budget store old (record now { left = left'; source_faults = source_faults }) first marks (first_of status (status_of ending))
     at_read source_faults fresh was_open drained none again ending ends =
         let same : all_moved.more ≡ (r.used ++ used) ++ reader'.held = ap (λ (l : List ℕ). l ++ all_moved.more) (sym fresh) ∙ all_moved.split in
@@ -75,6 +75,9 @@ module _ (Asks : Items Request) (Stands : World → Type 0) (tells : Bool) (size
           in_time = λ t. subst (λ (l : List Round). AreInTime old.moment l now.moment) (sym nil) (r.in_time t);
           kept = λ t. subst (λ (l : List Round). AreKept size store old.moment first.world l) (sym nil) (r.kept t);
           counted = subst (λ (l : List Round). AreCounted old.bank_faults (faults_in l) now.bank_faults) (sym nil) r.counted;
+          journals_stood = λ t. subst (λ (l : List Round). JournalsStood store old.moment l) (sym nil) (r.journals_stood t);
+          journal_counted = subst (λ (l : List Round). AreCounted old.journal_faults (journal_faults_in l) now.journal_faults) (sym nil) r.journal_counted;
+          last_area = subst (λ (l : List Round). IsLastArea l now.last_fault) (sym nil) r.last_area;
           folder_stays = r.folder_stays;
           folder_counted = subst (λ (l : List Round). AreCounted old.folder_faults (folder_faults_in l) now.folder_faults) (sym nil) r.folder_counted;
           ending = ending;
@@ -120,6 +123,9 @@ module _ (Asks : Items Request) (Stands : World → Type 0) (tells : Bool) (size
     in_time = r.in_time;
     kept = r.kept;
     counted = r.counted;
+    journal_counted = r.journal_counted;
+    last_area = r.last_area;
+    journals_stood = r.journals_stood;
     folder_stays = r.folder_stays;
     folder_counted = r.folder_counted;
     status_now = r.status_now;
@@ -127,12 +133,12 @@ module _ (Asks : Items Request) (Stands : World → Type 0) (tells : Bool) (size
 
   -- a request was read, and its round was made
   module _ (left' : Option (List ℕ)) (source_faults : ℕ) (reader' : Reading) (request : Request) (t : Takes Asks now.left left' reader reader' (request ∷ []))
-      (Stands' : World → Type 0) (store' : View) (written' : Option (List ℕ)) (sink_faults : ℕ) (folder' : Option (List NamedText)) (folder_faults bank_faults : ℕ) (marks' : List Mark) (status' : ℕ) (end : Option Ending)
+      (Stands' : World → Type 0) (store' : View) (written' : Option (List ℕ)) (sink_faults : ℕ) (folder' : Option (List NamedText)) (folder_faults bank_faults journal_faults last_fault : ℕ) (marks' : List Mark) (status' : ℕ) (end : Option Ending)
       (round : Round) (size' : ℕ) (same_size : size' ≡ size) (same_moment : now.moment ≡ store.moment) (same_folder : folder' ≡ now.folder)
-      (made : IsRound Stands' tells size' now.folder store store' (stage_after first r.rounds) request now.written written' now.sink_faults sink_faults now.folder_faults folder_faults now.bank_faults bank_faults
+      (made : IsRound Stands' tells size' now.folder store store' (stage_after first r.rounds) request now.written written' now.sink_faults sink_faults now.folder_faults folder_faults now.bank_faults bank_faults now.journal_faults journal_faults last_fault
       marks marks' status status' end round) where
     abbrev Made : ℕ → Type 0
-    Made n = IsRound Stands' tells n now.folder store store' (stage_after first r.rounds) request now.written written' now.sink_faults sink_faults now.folder_faults folder_faults now.bank_faults bank_faults
+    Made n = IsRound Stands' tells n now.folder store store' (stage_after first r.rounds) request now.written written' now.sink_faults sink_faults now.folder_faults folder_faults now.bank_faults bank_faults now.journal_faults journal_faults last_fault
         marks marks' status status' end round
 
     ir : Made size
@@ -147,6 +153,8 @@ module _ (Asks : Items Request) (Stands : World → Type 0) (tells : Bool) (size
       folder = folder';
       folder_faults = folder_faults;
       bank_faults = bank_faults;
+      journal_faults = journal_faults;
+      last_fault = last_fault;
       moment = store'.moment;
     }
 
@@ -164,9 +172,9 @@ module _ (Asks : Items Request) (Stands : World → Type 0) (tells : Bool) (size
     whole_then : reader'.ended ≡ true → Asks (r.used ++ t.used) true ≡ asked (r.rounds ++ round ∷ [])
     whole_then e = r.opened t.was_open t.used true ∙ ap (λ (l : List Request). asked r.rounds ++ l) (t.last e) ∙ sym asked_then
 
-    turn_then : IsRoundOf size tells old.folder (stage_after first r.rounds) round.asked round.reply round.after
-    turn_then = subst (λ (x : Request). IsRoundOf size tells old.folder (stage_after first r.rounds) x round.reply round.after) (sym ir.same)
-        (subst (λ (f : Option (List NamedText)). IsRoundOf size tells f (stage_after first r.rounds) request round.reply round.after) r.folder_stays ir.turn)
+    turn_then : IsRoundOf size tells old.folder (stage_after first r.rounds) round.asked round.area round.journal round.reply round.after
+    turn_then = subst (λ (x : Request). IsRoundOf size tells old.folder (stage_after first r.rounds) x round.area round.journal round.reply round.after) (sym ir.same)
+        (subst (λ (f : Option (List NamedText)). IsRoundOf size tells f (stage_after first r.rounds) request round.area round.journal round.reply round.after) r.folder_stays ir.turn)
 
     run_then : IsRun size tells old.folder first (r.rounds ++ round ∷ [])
     run_then = run_more size tells old.folder first r.rounds round r.run turn_then
@@ -186,6 +194,16 @@ module _ (Asks : Items Request) (Stands : World → Type 0) (tells : Bool) (size
 
     counted_then : AreCounted old.bank_faults (faults_in (r.rounds ++ round ∷ [])) bank_faults
     counted_then = subst (λ (n : ℕ). AreCounted old.bank_faults n bank_faults) (sym (faults_more r.rounds round)) (counted_more old.bank_faults (faults_in r.rounds) (faults_of round.reply) now.bank_faults bank_faults r.counted ir.counted)
+
+    journal_counted_then : AreCounted old.journal_faults (journal_faults_in (r.rounds ++ round ∷ [])) journal_faults
+    journal_counted_then = subst (λ (n : ℕ). AreCounted old.journal_faults n journal_faults) (sym (journal_faults_more r.rounds round))
+        (counted_more old.journal_faults (journal_faults_in r.rounds) (journal_faults_of round.reply round.area) now.journal_faults journal_faults r.journal_counted ir.journal_counted)
+
+    last_area_then : IsLastArea (r.rounds ++ round ∷ []) last_fault
+    last_area_then = last_area_more r.rounds round last_fault ir.area
+
+    stood_then : IsTrue tells → JournalsStood store' old.moment (r.rounds ++ round ∷ [])
+    stood_then told = stood_more store store' _ old.moment r.rounds round (r.journals_stood told) (before_then told) (ir.meanwhile told) (ir.journal_stood told)
 
     folder_counted_then : AreCounted old.folder_faults (folder_faults_in (r.rounds ++ round ∷ [])) folder_faults
     folder_counted_then = subst (λ (n : ℕ). AreCounted old.folder_faults n folder_faults) (sym (folder_faults_more r.rounds round))
@@ -222,6 +240,9 @@ module _ (Asks : Items Request) (Stands : World → Type 0) (tells : Bool) (size
       in_time = in_time_then;
       kept = kept_then;
       counted = counted_then;
+      journal_counted = journal_counted_then;
+      last_area = last_area_then;
+      journals_stood = stood_then;
       folder_stays = same_folder ∙ r.folder_stays;
       folder_counted = folder_counted_then;
       status_now = sym (first_none status') ∙ status_later 0;
@@ -243,7 +264,7 @@ module _ (Asks : Items Request) (Stands : World → Type 0) (tells : Bool) (size
     -- the run ended at a round
     at_round : start.held ≡ [] → start.ended ≡ false → (told untold : List Round) → told ++ untold ≡ r.rounds ++ round ∷ [] → (cut lost : List ℕ) → cut ++ lost ≡ output untold
         → Appends old.written written' (output told ++ cut) → marks' ≡ marks_from 0 told → (ending : Ending)
-        → Ends start.budget old new moved_then.more [] reader'.ended told untold cut unasked ending
+        → Ends start.budget old new moved_then.more [] reader'.ended told untold cut lost unasked ending
         → IsSession Asks Stands' tells size start.budget store' old new first marks' (first_of status' (status_of ending))
     at_round fresh was_open told untold all cut lost cut_off written marks_told ending ends =
         let same : moved_then.more ≡ (r.used ++ t.used) ++ reader'.held = ap (λ (l : List ℕ). l ++ moved_then.more) (sym fresh) ∙ moved_then.split in
@@ -271,6 +292,9 @@ module _ (Asks : Items Request) (Stands : World → Type 0) (tells : Bool) (size
           in_time = λ t. subst (λ (l : List Round). AreInTime old.moment l store'.moment) (sym all) (in_time_then t);
           kept = λ t. subst (λ (l : List Round). AreKept size store' old.moment first.world l) (sym all) (kept_then t);
           counted = subst (λ (l : List Round). AreCounted old.bank_faults (faults_in l) bank_faults) (sym all) counted_then;
+          journals_stood = λ t. subst (λ (l : List Round). JournalsStood store' old.moment l) (sym all) (stood_then t);
+          journal_counted = subst (λ (l : List Round). AreCounted old.journal_faults (journal_faults_in l) journal_faults) (sym all) journal_counted_then;
+          last_area = subst (λ (l : List Round). IsLastArea l last_fault) (sym all) last_area_then;
           folder_stays = same_folder ∙ r.folder_stays;
           folder_counted = subst (λ (l : List Round). AreCounted old.folder_faults (folder_faults_in l) folder_faults) (sym all) folder_counted_then;
           ending = ending;
@@ -289,8 +313,8 @@ module _ (Asks : Items Request) (Stands : World → Type 0) (tells : Bool) (size
         ((r.rounds, round, refl, r.go_on, told.2), refl, refl)
     ends_at fresh was_open later SinkFault told =
         at_round fresh was_open r.rounds (round ∷ []) refl told.0.0 told.0.1 (sym told.0.2 ∙ sym (append-nil (text_of round.reply)))
-        (Appends-trans old.written now.written written' (output r.rounds) told.0.0 r.written told.0.3) (told.1 ∙ r.marks_told) SinkFault
-        (r.go_on, refl, refl, omega (arith, told.2, later))
+        (Appends-trans old.written now.written written' (output r.rounds) told.0.0 r.written told.0.4) (told.1 ∙ r.marks_told) SinkFault
+        (r.go_on, refl, refl, told.0.3, omega (arith, told.2, later))
     ends_at fresh was_open later NoMemory told =
         at_round fresh was_open r.rounds (round ∷ []) refl [] (output (round ∷ [])) refl
         (Appends-trans old.written now.written written' (output r.rounds) [] r.written told.0) (told.1 ∙ r.marks_told) NoMemory
@@ -319,6 +343,9 @@ begun Asks Stands tells size store now start first moment marks status none_mark
   in_time = λ t. omega arith;
   kept = λ t. subst (λ (m : ℕ). AreKept size store m first.world []) (sym same_moment) (kept_begun size store first.world (sound t) (images t));
   counted = omega arith;
+  journal_counted = omega arith;
+  last_area = tt;
+  journals_stood = λ t. tt;
   folder_stays = refl;
   folder_counted = omega arith;
   status_now = no_cause;

@@ -23,12 +23,13 @@ use Rattle.session.proofs.KeptLaws.{opening_read, opening_later}
 use Rattle.session.proofs.Prefixes.{marks_held}
 use Rattle.session.proofs.Statuses.{whole_output, session_status, session_exits}
 use Rattle.session.proofs.Refusals.{refusal_exits}
+use Rattle.session.proofs.Owing.{owed_by_fault}
 
--- An earlier count of the store's faults, and less of where the engine stands.
-module _ (Asks : Items Request) (Stands Stands' : World → Type 0) (tells : Bool) (size budget : ℕ) (store : View) (old new : Outside) (bank_faults : ℕ) (first : Stage) (marks : List Mark) (status : ℕ)
+-- Earlier counts of the store's faults, and less of where the engine stands.
+module _ (Asks : Items Request) (Stands Stands' : World → Type 0) (tells : Bool) (size budget : ℕ) (store : View) (old new : Outside) (bank_faults journal_faults last_fault : ℕ) (first : Stage) (marks : List Mark) (status : ℕ)
     (s : IsSession Asks Stands tells size budget store old new first marks status) where
-  ends_still : (ending : Ending) → Ends budget old new s.read s.beyond s.met_end s.told s.untold s.cut s.unasked ending
-      → Ends budget (record old { bank_faults = bank_faults }) new s.read s.beyond s.met_end s.told s.untold s.cut s.unasked ending
+  ends_still : (ending : Ending) → Ends budget old new s.read s.beyond s.met_end s.told s.untold s.cut s.lost s.unasked ending
+      → Ends budget (record old { bank_faults = bank_faults; journal_faults = journal_faults; last_fault = last_fault }) new s.read s.beyond s.met_end s.told s.untold s.cut s.lost s.unasked ending
   ends_still Ending.Ended e = e
   ends_still Ending.Closed e = e
   ends_still Ending.SourceFault e = e
@@ -36,9 +37,9 @@ module _ (Asks : Items Request) (Stands Stands' : World → Type 0) (tells : Boo
   ends_still Ending.OverBudget e = e
   ends_still Ending.NoMemory e = e
 
-  counted_earlier : bank_faults ≤ old.bank_faults → ((w : World) → Stands w → Stands' w)
-      → IsSession Asks Stands' tells size budget store (record old { bank_faults = bank_faults }) new first marks status
-  counted_earlier fewer stands = record {
+  counted_earlier : bank_faults ≤ old.bank_faults → journal_faults ≤ old.journal_faults → ((w : World) → Stands w → Stands' w)
+      → IsSession Asks Stands' tells size budget store (record old { bank_faults = bank_faults; journal_faults = journal_faults; last_fault = last_fault }) new first marks status
+  counted_earlier fewer fewer_journal stands = record {
     read = s.read;
     beyond = s.beyond;
     taken = s.taken;
@@ -58,7 +59,10 @@ module _ (Asks : Items Request) (Stands Stands' : World → Type 0) (tells : Boo
     marks_told = s.marks_told;
     in_time = s.in_time;
     kept = s.kept;
+    journals_stood = s.journals_stood;
     counted = omega (arith, s.counted, fewer);
+    journal_counted = omega (arith, s.journal_counted, fewer_journal);
+    last_area = s.last_area;
     folder_stays = s.folder_stays;
     folder_counted = s.folder_counted;
     ending = s.ending;
@@ -81,7 +85,7 @@ leaves_settled told view engine size w same sound stands t =
     settled_as size (view engine.bank) w (sound t) (λ c image. subst (λ (n : ℕ). ReadsAs n w c) same (stands.images t c image))
 
 -- What a call hands back after a session.
-module _ {B P : Type 0} (told : Bool) (faults : B → ℕ) (view : B → View) (left left' : Option (List ℕ)) (source_faults source_faults' : ℕ) (written written' : Option (List ℕ)) (sink_faults sink_faults' : ℕ)
+module _ {B P : Type 0} (told : Bool) (faults journal_faults last_fault : B → ℕ) (view : B → View) (left left' : Option (List ℕ)) (source_faults source_faults' : ℕ) (written written' : Option (List ℕ)) (sink_faults sink_faults' : ℕ)
     (texts texts' : Option (List NamedText)) (folder_faults folder_faults' : ℕ) (bank : B) (opening closing : Engine B P) (before : List HistoryStep) where
   -- what is told before the call, once the store is open, and at the end
   abbrev seen_at : B → Outside
@@ -93,6 +97,8 @@ module _ {B P : Type 0} (told : Bool) (faults : B → ℕ) (view : B → View) (
     folder = texts;
     folder_faults = folder_faults;
     bank_faults = faults from;
+    journal_faults = journal_faults from;
+    last_fault = last_fault from;
     moment = (view from).moment;
   }
 
@@ -111,46 +117,48 @@ module _ {B P : Type 0} (told : Bool) (faults : B → ℕ) (view : B → View) (
     folder = texts';
     folder_faults = folder_faults';
     bank_faults = faults to;
+    journal_faults = journal_faults to;
+    last_fault = last_fault to;
     moment = (view to).moment;
   }
 
   answered : (found : List HistoryStep) (budget : ℕ) (marks : List Mark) (status : ℕ) → IsFound told before found → (IsTrue told → OnlyRead (view bank) (view opening.bank))
-      → (IsTrue told → IsSettled journal_bytes (view bank) before) → (IsTrue told → IsSound (view closing.bank)) → faults bank ≤ faults opening.bank → closing.journal.size ≡ journal_bytes
+      → (IsTrue told → IsSettled journal_bytes (view bank) before) → (IsTrue told → IsSound (view closing.bank)) → faults bank ≤ faults opening.bank → journal_faults bank ≤ journal_faults opening.bank → closing.journal.size ≡ journal_bytes
       → (IsTrue told → Passes (view opening.bank) (view closing.bank))
       → IsSession asks_of (StandsFor told view closing) told journal_bytes budget (view closing.bank) seen_open (seen_after closing.bank) (stage_of found) marks status
       → IsAnswered told budget (view bank) (view closing.bank) seen_before (seen_after closing.bank) before marks status
-  answered found budget marks status is_found read settled sound fewer same_size passes session =
+  answered found budget marks status is_found read settled sound fewer fewer_journal same_size passes session =
       let Settled : World → Type 0 = λ w. IsTrue told → IsSettledAs journal_bytes (view closing.bank) w in
-      let whole_call : IsSession asks_of Settled told journal_bytes budget (view closing.bank) (record seen_open { bank_faults = faults bank }) (seen_after closing.bank) (stage_of found) marks status =
+      let whole_call : IsSession asks_of Settled told journal_bytes budget (view closing.bank) (record seen_open { bank_faults = faults bank; journal_faults = journal_faults bank; last_fault = last_fault bank }) (seen_after closing.bank) (stage_of found) marks status =
       counted_earlier asks_of (StandsFor told view closing) Settled told journal_bytes budget (view closing.bank) seen_open (seen_after closing.bank)
-      (faults bank) (stage_of found) marks status session fewer (λ w stands. leaves_settled told view closing journal_bytes w same_size sound stands) in
+      (faults bank) (journal_faults bank) (last_fault bank) (stage_of found) marks status session fewer fewer_journal (λ w stands. leaves_settled told view closing journal_bytes w same_size sound stands) in
       record {
         found = found;
         is_found = is_found;
         opened = (view opening.bank).moment;
-        opening = λ t. opening_later journal_bytes (view opening.bank) (view closing.bank) (view bank).moment before (passes t)
-            (opening_read journal_bytes (view bank) (view opening.bank) before (read t) (settled t));
+        opening = λ t. opening_later (view bank) (view opening.bank) (view closing.bank) (passes t) (opening_read (view bank) (view opening.bank) (read t));
         session = whole_call;
-        acknowledged = all_held journal_bytes (view closing.bank) told (record seen_open { bank_faults = faults bank }) (seen_after closing.bank) (stage_of found) marks Settled budget status whole_call;
+        rests = owed_by_fault journal_bytes told texts (stage_of found) (whole_call.told ++ whole_call.untold) (journal_faults bank) (journal_faults closing.bank) refl refl whole_call.run whole_call.journal_counted;
+        acknowledged = all_held journal_bytes (view closing.bank) told (record seen_open { bank_faults = faults bank; journal_faults = journal_faults bank; last_fault = last_fault bank }) (seen_after closing.bank) (stage_of found) marks Settled budget status whole_call;
         whole = whole_output (StandsFor told view closing) told journal_bytes budget (view closing.bank) seen_open (seen_after closing.bank) (stage_of found) refl marks status session;
       }
 
   -- The same, by what the parts of the call say.
   pub handed : (found : List HistoryStep) × IsFound told before found × StandsFor told view opening (new_world found) → (IsTrue told → OnlyRead (view bank) (view opening.bank))
-      → (IsTrue told → IsSettled journal_bytes (view bank) before) → (IsTrue told → IsSound (view closing.bank)) → faults bank ≤ faults opening.bank
+      → (IsTrue told → IsSettled journal_bytes (view bank) before) → (IsTrue told → IsSound (view closing.bank)) → faults bank ≤ faults opening.bank → journal_faults bank ≤ journal_faults opening.bank
       → (size budget budget' moment : ℕ) (bank' : B) (marks marks' : List Mark) (status status' : ℕ) → size ≡ journal_bytes → closing.journal.size ≡ size → moment ≡ opening.clock
       → ((stage : Stage) → StandsFor told view opening stage.world → moment ≡ stage.now → IsTrue told → Passes (view opening.bank) (view closing.bank))
       → ((stage : Stage) → StandsFor told view opening stage.world → moment ≡ stage.now
       → IsSession asks_of (StandsFor told view closing) told size budget' (view closing.bank) seen_open (seen_after closing.bank) stage marks status)
       → budget' ≡ budget → bank' ≡ closing.bank → marks' ≡ marks → status' ≡ status
       → IsAnswered told budget (view bank) (view bank') seen_before (seen_after bank') before marks' status'
-  handed reopened read settled sound fewer size budget budget' moment bank' marks marks' status status' is_size same_size at_clock passes session same_budget same_bank same_marks same_status =
+  handed reopened read settled sound fewer fewer_journal size budget budget' moment bank' marks marks' status status' is_size same_size at_clock passes session same_budget same_bank same_marks same_status =
       let stage = stage_of reopened.0 in
       let now : moment ≡ stage.now = at_clock ∙ reopened.2.clock in
       subst (λ (code : ℕ). IsAnswered told budget (view bank) (view bank') seen_before (seen_after bank') before marks' code) (sym same_status)
       (subst (λ (ms : List Mark). IsAnswered told budget (view bank) (view bank') seen_before (seen_after bank') before ms status) (sym same_marks)
       (subst (λ (b : B). IsAnswered told budget (view bank) (view b) seen_before (seen_after b) before marks status) (sym same_bank)
-      (answered reopened.0 budget marks status reopened.1 read settled sound fewer (same_size ∙ is_size) (passes stage reopened.2 now)
+      (answered reopened.0 budget marks status reopened.1 read settled sound fewer fewer_journal (same_size ∙ is_size) (passes stage reopened.2 now)
       (subst (λ (n : ℕ). IsSession asks_of (StandsFor told view closing) told n budget (view closing.bank) seen_open (seen_after closing.bank) stage marks status) is_size
       (subst (λ (b : ℕ). IsSession asks_of (StandsFor told view closing) told size b (view closing.bank) seen_open (seen_after closing.bank) stage marks status) same_budget
       (session stage reopened.2 now))))))
@@ -177,6 +185,6 @@ module _ (told : Bool) (budget : ℕ) (entry store : View) (old new : Outside) (
       (λ t place bad. not_bad_journal journal_bytes journal (holds t).0 place (holds t).1 bad))
 
   -- No call over words that are a form ends with status 1.
-  pub never_one : IsOutcome told budget entry store old new before marks status → status ≡ 1 → ⊥
-  never_one (inl a) h = session_exits (λ w. IsTrue told → IsSettledAs journal_bytes store w) told journal_bytes budget store (record old { moment = a.opened }) new (stage_of a.found) refl marks status a.session (inl h)
-  never_one (inr r) h = refusal_exits old new told (entry.content 0) status r.refusal h
+  pub never_one : (tells : Bool) → IsOutcome told tells budget entry store old new before marks status → status ≡ 1 → ⊥
+  never_one tells (inl a) h = session_exits (λ w. IsTrue told → IsSettledAs journal_bytes store w) told journal_bytes budget store (record old { moment = a.opened }) new (stage_of a.found) refl marks status a.session (inl h)
+  never_one tells (inr r) h = refusal_exits old new tells (entry.content 0) status r.0.refusal h

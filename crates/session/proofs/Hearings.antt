@@ -6,8 +6,8 @@ use Rattle.records.specs.declared.event.Asked.{Asked}
 use Rattle.records.specs.declared.reply.LineRefusal.{LineRefusal}
 use Rattle.records.specs.declared.reply.LineRefusal.TheVariants.{NotACommand, BadWord, LineTooLong, NoMemory as WantOfMemory}
 use Rattle.desk.specs.Asks.{is_skipped, asked_of, Answers}
-use Rattle.input.specs.declared.plain.RawLine.{RawLine}
-use Rattle.input.specs.declared.plain.RawLine.TheVariants.{Kept, Long}
+use Rattle.input.specs.Lines.{RawLine}
+use Rattle.input.specs.Lines.{Kept, Long}
 use Rattle.input.specs.Lines.{raw_lines}
 use Rattle.input.specs.Reading.{Reading, ReadsItem}
 use Rattle.session.specs.Asking.{Request, requests_of, asks_of}

@@ -1,11 +1,10 @@
 -- What a crash left, as rounds go on.
 use Rattle.std.proofs.Common.{◌≡◌, ◌⊎◌, inl, inr, ⊎_elim, ℕ, ◌≤◌, List, [], ◌∷◌, ◌++◌, subst, arith}
 use Rattle.bank.specs.Content.{Image}
-use Rattle.bank.specs.View.{View, IsImage, IsSound, LeavesOnly, OnlyRead}
-use Rattle.site_history.specs.Steps.{HistoryStep}
+use Rattle.bank.specs.View.{View, IsImage, IsSound, IsSince, LeavesOnly, OnlyRead}
 use Rattle.site_history.specs.Worlds.{World}
-use Rattle.site_history.specs.Images.{ReadsAs, IsSettled}
-use Rattle.session.specs.Rounds.{Stage, Round, stage_after, AreInTime}
+use Rattle.site_history.specs.Images.{ReadsAs}
+use Rattle.session.specs.Rounds.{Stage, Round, stage_after, AreInTime, JournalsStood}
 use Rattle.session.specs.Kept.{AreKept, IsOpening, Passes}
 use Rattle.session.proofs.RoundLaws.{in_time_to}
 
@@ -29,17 +28,30 @@ kept_more size store store' from first (x ∷ rounds) round kept in_time left sa
       kept_more size store store' x.moment x.after rounds round kept.1 in_time.1 left same since,
     )
 
--- A store that was settled, and was read alone, is open: each image meanwhile reads nearly as before.
-pub opening_read : (size : ℕ) (u v : View) (before : List HistoryStep) → OnlyRead u v → IsSettled size u before → IsOpening size v u.moment v.moment before
-opening_read size u v before read settled = record {
+-- One round more: what the journal read when earlier rounds began stood in the store, and stays an image since then.
+pub stood_more : (store store' : View) (P : Image → Type 0) (from : ℕ) (rounds : List Round) (round : Round) → JournalsStood store from rounds → AreInTime from rounds store.moment
+    → LeavesOnly store store' P → (c : Image) × IsSince store' store.moment c × (round.journal ≡ c 0) → JournalsStood store' from (rounds ++ round ∷ [])
+stood_more store store' P from [] round stood in_time left read = ((read.0, read.1 from in_time, read.2), tt)
+stood_more store store' P from (x ∷ rounds) round stood in_time left read = (
+  (stood.0.0, left.keeps from stood.0.0 (omega (arith, in_time.0, in_time_to x.moment store.moment rounds in_time.1)) stood.0.1, stood.0.2),
+  stood_more store store' P x.moment rounds round stood.1 in_time.1 left read,
+)
+
+-- What a store reads is an image since each moment up to its own, also as time goes on.
+pub reads_since : (old new : View) (P : Image → Type 0) → IsSound old → LeavesOnly old new P → IsSince new old.moment old.content
+reads_since old new P sound left = λ t le. left.keeps t old.content le (sound.counts_now t old.content le sound.reads_as_image)
+
+-- A store that was read alone is open: each image meanwhile is one from before.
+pub opening_read : (u v : View) → OnlyRead u v → IsOpening u v v.moment
+opening_read u v read = record {
   later = read.moments.later;
-  images = λ c left. inr (settled.each c (read.moments.each c left));
+  images = λ c left. inr (read.moments.each c left);
 }
 
 -- That stays so as time goes on: any other image is one since the store was open.
-pub opening_later : (size : ℕ) (v v' : View) (from : ℕ) (before : List HistoryStep) → Passes v v' → IsOpening size v from v.moment before → IsOpening size v' from v.moment before
-opening_later size v v' from before passes opening = record {
+pub opening_later : (entry v v' : View) → Passes v v' → IsOpening entry v v.moment → IsOpening entry v' v.moment
+opening_later entry v v' passes opening = record {
   later = opening.later;
   images = λ c left. ⊎_elim (λ was. ⊎_elim (λ since. inl (passes.keeps v.moment c (omega arith) since)) (λ near. inr near) (opening.images c was))
-      (λ p. inl (p.1 v.moment (omega arith))) (passes.before from c opening.later left);
+      (λ p. inl (p.1 v.moment (omega arith))) (passes.before entry.moment c opening.later left);
 }

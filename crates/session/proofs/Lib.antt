@@ -11,3 +11,4 @@ pub mod StatusCauses
 pub mod Statuses
 pub mod Refusals
 pub mod Handing
+pub mod Owing

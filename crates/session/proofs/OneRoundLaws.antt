@@ -1,6 +1,6 @@
 -- One round from its parts.
 use Rattle.std.proofs.Common.{◌≡◌, ◌+◌, ℕ, List, length, refl, ◌∙◌, ap, subst, Option, Bool, IsTrue}
-use Rattle.site_text.specs.Causes.{AreCounted}
+use Rattle.base.specs.Causes.{AreCounted}
 use Rattle.outside.specs.declared.folder.NamedText.{NamedText}
 use Rattle.bank.specs.Content.{Image}
 use Rattle.bank.specs.View.{View, IsSound}
@@ -10,8 +10,9 @@ use Rattle.site_history.specs.Images.{ReadsAs}
 use Rattle.engine.specs.declared.kept.Engine.{Engine}
 use Rattle.engine.specs.StandsFor.{StandsFor, Moves}
 use Rattle.session.specs.Asking.{Request}
-use Rattle.session.specs.Rounds.{Stage, Round, IsRoundOf, first_of, cause_of, faults_of, folder_faults_of, mark_of}
+use Rattle.session.specs.Rounds.{Stage, Round, IsRoundOf, first_of, cause_of, faults_of, journal_faults_of, folder_faults_of, mark_of}
 use Rattle.session.specs.OneRound.{IsRound, Tells}
+use Rattle.session.proofs.KeptLaws.{reads_since}
 use Rattle.session.specs.declared.kept.Mark.{Mark}
 use Rattle.session.specs.declared.kept.Ending.{Ending}
 
@@ -22,33 +23,37 @@ images_since told view engine size w sound same stands t c left = subst (λ (n :
 
 -- A round from the stage at which an engine stands, by its answer and its mark.
 pub made : {B P : Type 0} (told : Bool) (view : B → View) (engine engine' : Engine B P) (folder : Option (List NamedText)) (stage : Stage) (request : Request) (reply : Reply) (now' : ℕ)
-    (written written' : Option (List ℕ)) (faults faults' folder_faults folder_faults' bank_faults bank_faults' : ℕ) (marks mid marks' : List Mark) (status status' : ℕ) (end : Option Ending) (mark : Mark)
-    → (IsTrue told → IsSound (view engine'.bank)) → engine'.journal.size ≡ engine.journal.size
-    → (stage' : Stage) × IsRoundOf engine.journal.size told folder stage request reply stage' × Moves told view engine engine' stage.world stage'.world × (now' ≡ stage'.now)
+    (written written' : Option (List ℕ)) (faults faults' folder_faults folder_faults' bank_faults bank_faults' journal_faults journal_faults' last_fault : ℕ) (marks mid marks' : List Mark) (status status' : ℕ) (end : Option Ending) (mark : Mark)
+    → (IsTrue told → IsSound (view engine.bank)) → (IsTrue told → IsSound (view engine'.bank)) → engine'.journal.size ≡ engine.journal.size
+    → (stage' : Stage) × IsRoundOf engine.journal.size told folder stage request last_fault ((view engine.bank).content 0) reply stage' × Moves told view engine engine' stage.world stage'.world × (now' ≡ stage'.now)
     × AreCounted folder_faults (folder_faults_of reply) folder_faults'
     → status' ≡ first_of status (cause_of reply) → AreCounted bank_faults (faults_of reply) bank_faults'
+    → AreCounted journal_faults (journal_faults_of reply last_fault) journal_faults'
     → mid ≡ marks → mark.answered ≡ length mid + 1 → ((w : World) → StandsFor told view engine' w → mark.steps ≡ length w.history) → (IsTrue told → mark.moment ≡ (view engine'.bank).moment)
     → Tells written written' faults faults' mid marks' end reply mark
     → (round : Round) × IsRound (StandsFor told view engine') told engine.journal.size folder (view engine.bank) (view engine'.bank) stage request
-    written written' faults faults' folder_faults folder_faults' bank_faults bank_faults' marks marks' status status' end round × (now' ≡ round.after.now)
-made told view engine engine' folder stage request reply now' written written' faults faults' folder_faults folder_faults' bank_faults bank_faults' marks mid marks' status status' end mark sound same_size turn cause counted same answered steps at_moment tells = (
-  record { asked = request; reply = reply; after = turn.0; moment = mark.moment },
+    written written' faults faults' folder_faults folder_faults' bank_faults bank_faults' journal_faults journal_faults' last_fault marks marks' status status' end round × (now' ≡ round.after.now)
+made told view engine engine' folder stage request reply now' written written' faults faults' folder_faults folder_faults' bank_faults bank_faults' journal_faults journal_faults' last_fault marks mid marks' status status' end mark sound_before sound same_size turn cause counted journal_counted same answered steps at_moment tells = (
+  record { asked = request; reply = reply; after = turn.0; area = last_fault; journal = (view engine.bank).content 0; moment = mark.moment },
   record {
     same = refl;
     turn = turn.1;
     stands = turn.2.stands;
     first_cause = cause;
     counted = counted;
+    area = refl;
+    journal_counted = journal_counted;
+    journal_stood = λ t. ((view engine.bank).content, reads_since _ _ _ (sound_before t) (turn.2.moments t), refl);
     folder_counted = turn.4;
     moment = at_moment;
     meanwhile = turn.2.moments;
     since = images_since told view engine' engine.journal.size turn.0.world sound same_size turn.2.stands;
-    tells_answer = subst (λ (ms : List Mark). Tells written written' faults faults' ms marks' end reply (mark_of (length ms + 1) (record { asked = request; reply = reply; after = turn.0; moment = mark.moment }))) same
+    tells_answer = subst (λ (ms : List Mark). Tells written written' faults faults' ms marks' end reply (mark_of (length ms + 1) (record { asked = request; reply = reply; after = turn.0; area = last_fault; journal = (view engine.bank).content 0; moment = mark.moment }))) same
         (subst (λ (m : Mark). Tells written written' faults faults' mid marks' end reply m) same_mark tells);
   },
   turn.3,
 )
   where
-    same_mark : mark ≡ mark_of (length mid + 1) (record { asked = request; reply = reply; after = turn.0; moment = mark.moment })
+    same_mark : mark ≡ mark_of (length mid + 1) (record { asked = request; reply = reply; after = turn.0; area = last_fault; journal = (view engine.bank).content 0; moment = mark.moment })
     same_mark = ap (λ (n : ℕ). let m : Mark = record { answered = n; steps = mark.steps; moment = mark.moment } in m) answered
         ∙ ap (λ (n : ℕ). let m : Mark = record { answered = length mid + 1; steps = n; moment = mark.moment } in m) (steps turn.0.world turn.2.stands)

@@ -3,7 +3,7 @@ use Rattle.std.proofs.Common.{◌≡◌, ◌⊎◌, inl, inr, ℕ, ◌+◌, List
 use Rattle.std.proofs.lemmas.List.{append-nil}
 use Rattle.std.proofs.Math.Seq.{take-append_seam}
 use Rattle.outside.specs.declared.folder.NamedText.{NamedText}
-use Rattle.bank.specs.Content.{Image}
+use Rattle.bank.specs.Content.{Content, Image}
 use Rattle.bank.specs.View.{View}
 use Rattle.records.specs.declared.event.Asked.{Asked}
 use Rattle.records.specs.declared.event.Asked.TheVariants.{One, At as AskedAt, Configure}
@@ -40,13 +40,13 @@ turn_begins Stays told answer history moment reply w' turn = alike history histo
 turn_begins Owes told answer history moment reply w' turn = alike history history w'.history (ap (λ (w : World). w.history) turn) (whole history)
 
 -- So does an event; a reopening adds the step that is owed, or none.
-event_begins : (due : Bool) (size : ℕ) (w : World) (event : Event) (now area : ℕ) (reply : Reply) (w' : World) → EventTurnBy due size true w event now area reply w' → BeginsWith w.history w'.history
-event_begins false size w event now area reply w' turn = turn_begins (course_of reply area) true (answer_in size w.history (moment_of w.clock now) event) w.history (moment_of w.clock now) reply w' turn
-event_begins true size w event now area reply w' (inr (refused, e)) = alike w.history w.history w'.history (ap (λ (x : World). x.history) e) (whole w.history)
-event_begins true size w event now area reply w' (inl (steps, inl e, turn)) =
+event_begins : (due : Bool) (size : ℕ) (w : World) (event : Event) (now area : ℕ) (journal : Content) (reply : Reply) (w' : World) → EventTurnBy due size true w event now area journal reply w' → BeginsWith w.history w'.history
+event_begins false size w event now area journal reply w' turn = turn_begins (course_of reply area) true (answer_in size w.history (moment_of w.clock now) event) w.history (moment_of w.clock now) reply w' turn
+event_begins true size w event now area journal reply w' (inr (refused, e)) = alike w.history w.history w'.history (ap (λ (x : World). x.history) e) (whole w.history)
+event_begins true size w event now area journal reply w' (inl (steps, (inl e, holds), turn)) =
     longer w.history steps w'.history (alike w.history w.history steps e (whole w.history))
     (turn_begins (course_of reply area) true (answer_in size steps (moment_of (clock_from true w steps) now) event) steps (moment_of (clock_from true w steps) now) reply w' turn)
-event_begins true size w event now area reply w' (inl (steps, inr (made, owed, e), turn)) =
+event_begins true size w event now area journal reply w' (inl (steps, (inr (made, owed, e), holds), turn)) =
     longer w.history steps w'.history (made ∷ [], e)
     (turn_begins (course_of reply area) true (answer_in size steps (moment_of (clock_from true w steps) now) event) steps (moment_of (clock_from true w steps) now) reply w' turn)
 
@@ -54,25 +54,25 @@ event_begins true size w event now area reply w' (inl (steps, inr (made, owed, e
 stage_alike : (stage stage' : Stage) → stage' ≡ stage → BeginsWith stage.world.history stage'.world.history
 stage_alike stage stage' e = alike stage.world.history stage.world.history stage'.world.history (ap (λ (s : Stage). s.world.history) e) (whole stage.world.history)
 
-stage_event : (size : ℕ) (stage : Stage) (event : Event) (reply : Reply) (stage' : Stage) → IsEvent size true stage event reply stage' → BeginsWith stage.world.history stage'.world.history
-stage_event size stage event reply stage' turn =
-    alike stage.world.history turn.1.history stage'.world.history (ap (λ (s : Stage). s.world.history) turn.3) (event_begins stage.world.due size stage.world event stage.now turn.0 reply turn.1 turn.2)
+stage_event : (size : ℕ) (stage : Stage) (event : Event) (area : ℕ) (journal : Content) (reply : Reply) (stage' : Stage) → IsEvent size true stage event area journal reply stage' → BeginsWith stage.world.history stage'.world.history
+stage_event size stage event area journal reply stage' turn =
+    alike stage.world.history turn.0.history stage'.world.history (ap (λ (s : Stage). s.world.history) turn.2) (event_begins stage.world.due size stage.world event stage.now area journal reply turn.0 turn.1)
 
-asked_begins : (size : ℕ) (folder : Option (List NamedText)) (stage : Stage) (asked : Asked) (reply : Reply) (stage' : Stage) → IsRoundOf size true folder stage (Ok asked) reply stage'
+asked_begins : (size : ℕ) (folder : Option (List NamedText)) (stage : Stage) (asked : Asked) (area : ℕ) (journal : Content) (reply : Reply) (stage' : Stage) → IsRoundOf size true folder stage (Ok asked) area journal reply stage'
     → BeginsWith stage.world.history stage'.world.history
-asked_begins size folder stage (One event) reply stage' (inl lost) = stage_alike stage stage' lost.1
-asked_begins size folder stage (One event) reply stage' (inr turn) = stage_event size stage event reply stage' turn
-asked_begins size folder stage (AskedAt moment) reply stage' (inl lost) = stage_alike stage stage' lost.1
-asked_begins size folder stage (AskedAt moment) reply stage' (inr moved) =
+asked_begins size folder stage (One event) area journal reply stage' (inl lost) = stage_alike stage stage' lost.1
+asked_begins size folder stage (One event) area journal reply stage' (inr turn) = stage_event size stage event area journal reply stage' turn
+asked_begins size folder stage (AskedAt moment) area journal reply stage' (inl lost) = stage_alike stage stage' lost.1
+asked_begins size folder stage (AskedAt moment) area journal reply stage' (inr moved) =
     alike stage.world.history stage.world.history stage'.world.history (ap (λ (s : Stage). s.world.history) moved.1) (whole stage.world.history)
-asked_begins size folder stage Configure reply stage' (inl unread) = stage_alike stage stage' unread.1
-asked_begins size folder stage Configure reply stage' (inr (texts, read, turn)) = stage_event size stage (ConfigureEvent texts) reply stage' turn
-asked_begins size folder stage _ reply stage' answers = stage_alike stage stage' answers.1
+asked_begins size folder stage Configure area journal reply stage' (inl unread) = stage_alike stage stage' unread.1
+asked_begins size folder stage Configure area journal reply stage' (inr (texts, read, turn)) = stage_event size stage (ConfigureEvent texts) area journal reply stage' turn
+asked_begins size folder stage _ area journal reply stage' answers = stage_alike stage stage' answers.1
 
-round_begins : (size : ℕ) (folder : Option (List NamedText)) (stage : Stage) (request : Request) (reply : Reply) (stage' : Stage) → IsRoundOf size true folder stage request reply stage'
+round_begins : (size : ℕ) (folder : Option (List NamedText)) (stage : Stage) (request : Request) (area : ℕ) (journal : Content) (reply : Reply) (stage' : Stage) → IsRoundOf size true folder stage request area journal reply stage'
     → BeginsWith stage.world.history stage'.world.history
-round_begins size folder stage (Err refusal) reply stage' answers = stage_alike stage stage' answers.1
-round_begins size folder stage (Ok asked) reply stage' round = asked_begins size folder stage asked reply stage' round
+round_begins size folder stage (Err refusal) area journal reply stage' answers = stage_alike stage stage' answers.1
+round_begins size folder stage (Ok asked) area journal reply stage' round = asked_begins size folder stage asked area journal reply stage' round
 
 -- And so it does after a run.
 run_begins : (size : ℕ) (folder : Option (List NamedText)) (stage : Stage) (rounds : List Round) → IsRun size true folder stage rounds
@@ -80,7 +80,7 @@ run_begins : (size : ℕ) (folder : Option (List NamedText)) (stage : Stage) (ro
 run_begins size folder stage [] run = whole stage.world.history
 run_begins size folder stage (x ∷ rounds) run =
     longer stage.world.history x.after.world.history (stage_after x.after rounds).world.history
-    (round_begins size folder stage x.asked x.reply x.after run.0) (run_begins size folder x.after rounds run.1)
+    (round_begins size folder stage x.asked x.area x.journal x.reply x.after run.0) (run_begins size folder x.after rounds run.1)
 
 -- An image that reads as a world reads as a history that begins with the world's.
 read_begins : (size : ℕ) (c : Image) (front : List HistoryStep) (w : World) → BeginsWith front w.history → ReadsAs size w c → (steps : List HistoryStep) × Reads size c steps × BeginsWith front steps
@@ -94,7 +94,7 @@ since_begins size folder v from stage [] kept run c left = read_begins size c st
 since_begins size folder v from stage (x ∷ rounds) kept run c left = by_time (kept.0 c left) (since_begins size folder v x.moment x.after rounds kept.1 run.1 c)
   where
     begins : BeginsWith stage.world.history x.after.world.history
-    begins = round_begins size folder stage x.asked x.reply x.after run.0
+    begins = round_begins size folder stage x.asked x.area x.journal x.reply x.after run.0
 
     by_time : v.left_since x.moment c ⊎ (ReadsAs size stage.world c ⊎ ReadsAs size x.after.world c)
         → (v.left_since x.moment c → (steps : List HistoryStep) × Reads size c steps × BeginsWith x.after.world.history steps)

@@ -1,6 +1,6 @@
 -- What is handed back where a store was not opened.
 use Rattle.std.proofs.Common.{◌≡◌, inl, inr, ℕ, List, [], refl, arith, Bool, IsTrue}
-use Rattle.site_text.specs.Causes.{Rose}
+use Rattle.base.specs.Causes.{Rose}
 use Rattle.bank.specs.Content.{Content}
 use Rattle.bank.specs.View.{View, OnlyRead}
 use Rattle.site_history.specs.Steps.{HistoryStep}
@@ -13,7 +13,6 @@ use Rattle.session.specs.Session.{Outside}
 use Rattle.session.specs.Refusing.{TellsRefusal, status_of_shut}
 use Rattle.session.specs.Outcomes.{Refusal, IsRefused, HasStatus, journal_bytes}
 use Rattle.session.specs.declared.kept.Mark.{Mark}
-use Rattle.session.proofs.KeptLaws.{opening_read}
 use Rattle.session.proofs.StatusCauses.{by_bank, by_memory, by_bad_journal}
 
 -- A refusal by what shut the store.
@@ -24,40 +23,31 @@ refusal_of old new tells journal BankFault status is rose bad told = inl (is, ro
 refusal_of old new tells journal NoMemory status is rose bad told = inr (inl (is, told))
 refusal_of old new tells journal (BadJournal place) status is rose bad told = inr (inr (place, is, bad, told))
 
--- What a store tells that tells its content, one may leave untold.
-refusal_untold : (old new : Outside) (told tells : Bool) (journal : Content) (status : ℕ) → (IsTrue told → IsTrue tells) → Refusal old new tells journal status → Refusal old new told journal status
-refusal_untold old new told tells journal status so (inl r) = inl r
-refusal_untold old new told tells journal status so (inr (inl r)) = inr (inl r)
-refusal_untold old new told tells journal status so (inr (inr r)) = inr (inr (r.0, r.1, λ t. r.2 (so t), r.3))
-
 -- The causes of the status of a store that was not opened.
 refused_status : (old new : Outside) (tells : Bool) (journal : Content) (budget status : ℕ) → Refusal old new tells journal status → HasStatus tells journal budget old new status
 refused_status old new tells journal budget status (inl r) = by_bank tells journal budget old new status r.0 r.1
 refused_status old new tells journal budget status (inr (inl r)) = by_memory tells journal budget old new status r.0
 refused_status old new tells journal budget status (inr (inr r)) = by_bad_journal tells journal budget old new status r.1 (λ t. (r.0, r.2 t))
 
--- A store that was only read, and not opened.
-pub refused_outcome : (old new : Outside) (told tells : Bool) (entry store : View) (before : List HistoryStep) (marks : List Mark) (status : ℕ) → (IsTrue told → IsTrue tells)
-    → (IsTrue tells → OnlyRead entry store) → (IsTrue told → IsSettled journal_bytes entry before) → new.left ≡ old.left → new.source_faults ≡ old.source_faults
-    → new.folder ≡ old.folder → new.folder_faults ≡ old.folder_faults → marks ≡ [] → Refusal old new tells (entry.content 0) status → IsRefused told entry store old new before marks status
-refused_outcome old new told tells entry store before marks status so read settled unread no_read_failed folder_stays folder_unread no_marks refusal = record {
-  unread = unread;
-  no_read_failed = no_read_failed;
-  folder_stays = folder_stays;
-  folder_unread = folder_unread;
-  no_marks = no_marks;
-  refusal = refusal_untold old new told tells (entry.content 0) status so refusal;
-  opening = λ t. opening_read journal_bytes entry store before (read (so t)) (settled t);
-  settled = λ t. settled_after_reading journal_bytes entry store before (read (so t)) (settled t);
-}
+-- A store that was only read is as settled as before.
+pub still_settled : (entry store : View) (before : List HistoryStep) (told tells : Bool) → (IsTrue told → IsTrue tells) → (IsTrue tells → OnlyRead entry store) → (IsTrue told → IsSettled journal_bytes entry before)
+    → IsTrue told → IsSettled journal_bytes store before
+still_settled entry store before told tells so read settled t = settled_after_reading journal_bytes entry store before (read (so t)) (settled t)
 
 module _ (old new : Outside) (tells : Bool) (entry store : View) (cause : ShutCause) (status : ℕ) (is : status ≡ status_of_shut cause) (rose : cause ≡ BankFault → Rose old.bank_faults new.bank_faults)
     (bad : IsTrue tells → TellsJournal journal_bytes (entry.content 0) cause) (written : TellsRefusal old.written new.written old.sink_faults new.sink_faults cause) where
   -- What was handed back by a store that was shut.
-  pub shut_outcome : (told : Bool) (before : List HistoryStep) (marks : List Mark) → (IsTrue told → IsTrue tells) → (IsTrue tells → OnlyRead entry store) → (IsTrue told → IsSettled journal_bytes entry before)
-      → new.left ≡ old.left → new.source_faults ≡ old.source_faults → new.folder ≡ old.folder → new.folder_faults ≡ old.folder_faults → marks ≡ [] → IsRefused told entry store old new before marks status
-  shut_outcome told before marks so read settled unread no_read_failed folder_stays folder_unread no_marks =
-      refused_outcome old new told tells entry store before marks status so read settled unread no_read_failed folder_stays folder_unread no_marks (refusal_of old new tells (entry.content 0) cause status is rose bad written)
+  pub shut_refused : (marks : List Mark) → (IsTrue tells → OnlyRead entry store)
+      → new.left ≡ old.left → new.source_faults ≡ old.source_faults → new.folder ≡ old.folder → new.folder_faults ≡ old.folder_faults → marks ≡ [] → IsRefused tells entry store old new marks status
+  shut_refused marks read unread no_read_failed folder_stays folder_unread no_marks = record {
+    unread = unread;
+    no_read_failed = no_read_failed;
+    folder_stays = folder_stays;
+    folder_unread = folder_unread;
+    no_marks = no_marks;
+    refusal = refusal_of old new tells (entry.content 0) cause status is rose bad written;
+    only_read = read;
+  }
 
   -- The causes of its status.
   pub shut_status : (budget : ℕ) → HasStatus tells (entry.content 0) budget old new status

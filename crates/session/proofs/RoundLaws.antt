@@ -2,16 +2,16 @@
 use Rattle.std.proofs.Common.{◌≡◌, ℕ, ◌+◌, ◌≤◌, List, [], ◌∷◌, ◌++◌, length, refl, sym, ◌∙◌, ap, arith, Bool, false, cond, suc, zero, append_assoc, Option}
 use Rattle.std.proofs.lemmas.List.{append-nil}
 use Rattle.std.proofs.lemmas.Bool.{ne_eqb}
-use Rattle.site_text.specs.Causes.{AreCounted}
+use Rattle.base.specs.Causes.{AreCounted}
 use Rattle.outside.specs.declared.folder.NamedText.{NamedText}
 use Rattle.desk.specs.Texts.{text_of}
 use Rattle.session.specs.Asking.{Request}
-use Rattle.session.specs.Rounds.{Stage, Round, IsRoundOf, GoOn, ends_run, IsRun, stage_after, asked, output, AreInTime, mark_of, marks_from, cause_of, first_of, status_from, faults_of, faults_in, folder_faults_of, folder_faults_in}
+use Rattle.session.specs.Rounds.{Stage, Round, IsRoundOf, GoOn, ends_run, IsRun, stage_after, asked, output, AreInTime, mark_of, marks_from, cause_of, first_of, status_from, faults_of, faults_in, journal_faults_of, journal_faults_in, IsLastArea, folder_faults_of, folder_faults_in}
 use Rattle.session.specs.declared.kept.Mark.{Mark}
 
 -- A run goes on by a round from where it stands.
 pub run_more : (size : ℕ) (told : Bool) (folder : Option (List NamedText)) (stage : Stage) (rs : List Round) (r : Round) → IsRun size told folder stage rs
-    → IsRoundOf size told folder (stage_after stage rs) r.asked r.reply r.after → IsRun size told folder stage (rs ++ r ∷ [])
+    → IsRoundOf size told folder (stage_after stage rs) r.asked r.area r.journal r.reply r.after → IsRun size told folder stage (rs ++ r ∷ [])
 run_more size told folder stage [] r run turn = (turn, tt)
 run_more size told folder stage (x ∷ rs) r run turn = (run.0, run_more size told folder x.after rs r run.1 turn)
 
@@ -88,6 +88,16 @@ status_more (x ∷ rs) r later = ap (λ (n : ℕ). first_of (cause_of x.reply) n
 pub faults_more : (rs : List Round) (r : Round) → faults_in (rs ++ r ∷ []) ≡ faults_in rs + faults_of r.reply
 faults_more [] r = omega arith
 faults_more (x ∷ rs) r = omega (arith, faults_more rs r)
+
+pub journal_faults_more : (rs : List Round) (r : Round) → journal_faults_in (rs ++ r ∷ []) ≡ journal_faults_in rs + journal_faults_of r.reply r.area
+journal_faults_more [] r = omega arith
+journal_faults_more (x ∷ rs) r = omega (arith, journal_faults_more rs r)
+
+-- The last fault lies where it did after the round.
+pub last_area_more : (rs : List Round) (r : Round) (area : ℕ) → r.area ≡ area → IsLastArea (rs ++ r ∷ []) area
+last_area_more [] r area e = e
+last_area_more (x ∷ []) r area e = e
+last_area_more (x ∷ (y ∷ rs)) r area e = last_area_more (y ∷ rs) r area e
 
 pub folder_faults_more : (rs : List Round) (r : Round) → folder_faults_in (rs ++ r ∷ []) ≡ folder_faults_in rs + folder_faults_of r.reply
 folder_faults_more [] r = omega arith

@@ -1,7 +1,7 @@
 -- What each status says, by its cause.
 use Rattle.std.proofs.Common.{◌≡◌, inl, inr, ℕ, ◌<◌, ◌≤◌, List, length, arith, Bool, Option, Some, None, IfSome, IsTrue}
 use Rattle.std.specs.Io.KnownBytes.{IsAtEnd}
-use Rattle.site_text.specs.Causes.{Rose}
+use Rattle.base.specs.Causes.{Rose}
 use Rattle.bank.specs.Content.{Content}
 use Rattle.site_history.specs.Journals.{IsBadJournal}
 use Rattle.session.specs.Session.{Outside}

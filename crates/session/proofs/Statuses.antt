@@ -5,7 +5,7 @@ use Rattle.std.proofs.lemmas.Bool.{and_parts, and_from}
 use Rattle.std.specs.Prelude.{nat_eq}
 use Rattle.std.specs.List.{list_all}
 use Rattle.std.specs.Io.KnownBytes.{Appends, Consumes, IsAtEnd}
-use Rattle.site_text.specs.Causes.{Rose, AreCounted}
+use Rattle.base.specs.Causes.{Rose, AreCounted}
 use Rattle.outside.specs.declared.folder.NamedText.{NamedText}
 use Rattle.bank.specs.Content.{Content}
 use Rattle.bank.specs.View.{View}
@@ -49,10 +49,10 @@ status_is : (size : ℕ) (told : Bool) (folder : Option (List NamedText)) (stage
     → StatusOf rs later (status_from rs later)
 status_is size told folder stage [] later rest run = inl (refl, tt)
 status_is size told folder stage (x ∷ rs) later rest run =
-    by_cause (round_cause size told folder stage x.asked x.reply x.after rest run.0) (λ h. status_is size told folder x.after rs later h run.1)
+    by_cause (round_cause size told folder stage x.asked x.area x.journal x.reply x.after rest run.0) (λ h. status_is size told folder x.after rs later h run.1)
   where
     by_cause : CauseOf x.reply → (x.after.world.due ≡ false → StatusOf rs later (status_from rs later)) → StatusOf (x ∷ rs) later (first_of (cause_of x.reply) (status_from rs later))
-    by_cause (inl e) behind = behind_calm x rs later (status_from rs later) e (behind (calm_rests size told folder stage x.asked x.reply x.after rest run.0 e))
+    by_cause (inl e) behind = behind_calm x rs later (status_from rs later) e (behind (calm_rests size told folder stage x.asked x.area x.journal x.reply x.after rest run.0 e))
     by_cause (inr (inl (e, f))) behind = inr (inl (ap (λ (k : ℕ). first_of k (status_from rs later)) e ∙ first_suc 2 (status_from rs later), omega (arith, f)))
     by_cause (inr (inr e)) behind = inr (inr (ap (λ (k : ℕ). first_of k (status_from rs later)) e ∙ first_suc 8 (status_from rs later)))
 
@@ -101,7 +101,7 @@ module _ (Stands : World → Type 0) (told : Bool) (size budget : ℕ) (store : 
   kind = subst (λ (n : ℕ). StatusOf (s.told ++ s.untold) (status_of s.ending) n) (sym s.first_cause) (status_is size told old.folder first (s.told ++ s.untold) (status_of s.ending) rests s.run)
 
   abbrev EndsAs : Ending → Type 0
-  EndsAs ending = Ends budget old new s.read s.beyond s.met_end s.told s.untold s.cut s.unasked ending
+  EndsAs ending = Ends budget old new s.read s.beyond s.met_end s.told s.untold s.cut s.lost s.unasked ending
 
   abbrev pub Rises : Type 0
   Rises = Rose old.bank_faults new.bank_faults ⊎ Rose old.folder_faults new.folder_faults
@@ -179,7 +179,7 @@ module _ (Stands : World → Type 0) (told : Bool) (size budget : ℕ) (store : 
   session_status tells journal not_bad = elim cause [
     | inl c ↦ by_end tells journal budget old new status not_bad c.0 (s.end c.1.2) (all_read c.1 (λ bytes. length bytes ≤ budget) s.within)
     | inr (inl c) ↦ by_source tells journal budget old new status not_bad c.0 c.1.5
-    | inr (inr (inl c)) ↦ by_sink tells journal budget old new status not_bad c.0 c.1.3
+    | inr (inr (inl c)) ↦ by_sink tells journal budget old new status not_bad c.0 c.1.4
     | inr (inr (inr (inl c))) ↦ by_budget tells journal budget old new status not_bad c.0 (taken_more old.left new.left s.read s.beyond budget s.taken c.1.1 c.1.2)
     | inr (inr (inr (inr (inl (is, inl rose))))) ↦ by_bank tells journal budget old new status is rose
     | inr (inr (inr (inr (inl (is, inr rose))))) ↦ by_folder tells journal budget old new status not_bad is rose

@@ -6,9 +6,7 @@ use Rattle.records.specs.declared.reply.LineRefusal.TheVariants.{NotACommand, Ba
 use Rattle.records.specs.declared.reply.Reply.{Reply}
 use Rattle.records.specs.declared.reply.Reply.TheVariants.{Line, NoMemory}
 use Rattle.desk.specs.Asks.{is_skipped, asked_of}
-use Rattle.input.specs.declared.plain.RawLine.{RawLine}
-use Rattle.input.specs.declared.plain.RawLine.TheVariants.{Kept, Long}
-use Rattle.input.specs.Lines.{raw_lines}
+use Rattle.input.specs.Lines.{RawLine, Kept, Long, raw_lines}
 use Rattle.input.specs.Reading.{Items}
 
 -- what a line asks, or why it is no command

@@ -1,6 +1,6 @@
 -- What a call that reads the next line of an input hears.
 use Rattle.std.specs.Prelude.{◌≡◌, ◌⊎◌, ◌<◌, ℕ, List, [], ◌∷◌, ◌++◌, length, Option, Bool, true, false, Result, Err}
-use Rattle.site_text.specs.Causes.{Rose}
+use Rattle.base.specs.Causes.{Rose}
 use Rattle.records.specs.declared.event.Asked.{Asked}
 use Rattle.records.specs.declared.reply.LineRefusal.{LineRefusal}
 use Rattle.records.specs.declared.reply.LineRefusal.TheVariants.{NoMemory as WantOfMemory}

@@ -1,10 +1,10 @@
 -- What a crash at any moment leaves.
 use Rattle.std.specs.Prelude.{◌≡◌, ◌⊎◌, ◌≤◌, ℕ, List, [], ◌∷◌, ◌++◌, take}
 use Rattle.bank.specs.Content.{Image}
-use Rattle.bank.specs.View.{View, LeavesOnly}
+use Rattle.bank.specs.View.{View, IsImage, LeavesOnly}
 use Rattle.site_history.specs.Steps.{HistoryStep}
 use Rattle.site_history.specs.Worlds.{World}
-use Rattle.site_history.specs.Images.{Reads, ReadsAs, ReadsNear}
+use Rattle.site_history.specs.Images.{Reads, ReadsAs}
 use Rattle.session.specs.Rounds.{Round}
 use Rattle.session.specs.declared.kept.Mark.{Mark}
 
@@ -27,11 +27,10 @@ abbrev pub AreHeld : ℕ → View → List HistoryStep → List Mark → Type 0
 AreHeld size v last [] = Unit {0}
 AreHeld size v last (mark ∷ marks) = ((c : Image) → v.left_since mark.moment c → (steps : List HistoryStep) × Reads size c steps × BeginsWith (take mark.steps last) steps) × AreHeld size v last marks
 
--- An image that a crash left while the store was opened is one of those from before, which read nearly as the history that the
--- store was settled for; any other is one since it was open.
-pub record IsOpening (size : ℕ) (v : View) (from opened : ℕ) (before : List HistoryStep) : Type 0 where
-  pub later : from ≤ opened
-  pub images : (c : Image) → v.left_since from c → v.left_since opened c ⊎ ReadsNear size before c
+-- An image that a crash left while the store was opened is one that it might have left at entry; any other is one since it was open.
+pub record IsOpening (entry v : View) (opened : ℕ) : Type 0 where
+  pub later : entry.moment ≤ opened
+  pub images : (c : Image) → v.left_since entry.moment c → v.left_since opened c ⊎ IsImage entry c
 
 -- Time goes on from the one to the other: an image since an earlier moment is one from before, or one of this time.
 abbrev pub Passes : View → View → Type 0

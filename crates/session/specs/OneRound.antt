@@ -1,16 +1,17 @@
 -- What one round does.
 use Rattle.std.specs.Prelude.{◌≡◌, ◌⊎◌, ◌+◌, ℕ, List, [], ◌∷◌, ◌++◌, length, Option, Some, None, Bool, true, false, IsTrue}
 use Rattle.std.specs.Io.KnownBytes.{Appends}
-use Rattle.site_text.specs.Causes.{Rose, AreCounted}
+use Rattle.base.specs.Causes.{Rose, AreCounted}
 use Rattle.outside.specs.declared.folder.NamedText.{NamedText}
 use Rattle.bank.specs.Content.{Image}
-use Rattle.bank.specs.View.{View, LeavesOnly}
+use Rattle.outside.specs.Streams.{IsCut}
+use Rattle.bank.specs.View.{View, LeavesOnly, IsSince}
 use Rattle.records.specs.declared.reply.Reply.{Reply}
 use Rattle.desk.specs.Texts.{text_of}
 use Rattle.site_history.specs.Worlds.{World}
 use Rattle.site_history.specs.Images.{ReadsAs}
 use Rattle.session.specs.Asking.{Request}
-use Rattle.session.specs.Rounds.{Stage, Round, IsRoundOf, ends_run, cause_of, first_of, mark_of, faults_of, folder_faults_of}
+use Rattle.session.specs.Rounds.{Stage, Round, IsRoundOf, ends_run, cause_of, first_of, mark_of, faults_of, journal_faults_of, folder_faults_of}
 use Rattle.session.specs.declared.kept.Mark.{Mark}
 use Rattle.session.specs.declared.kept.Ending.{Ending}
 use Rattle.session.specs.declared.kept.Ending.TheVariants.{Ended, Closed, SourceFault, SinkFault, OverBudget, NoMemory}
@@ -22,7 +23,7 @@ Tells written written' faults faults' marks marks' None reply mark =
 Tells written written' faults faults' marks marks' (Some Closed) reply mark =
     Appends written written' (text_of reply) × (marks' ≡ marks ++ mark ∷ []) × (ends_run reply ≡ true)
 Tells written written' faults faults' marks marks' (Some SinkFault) reply mark =
-    ((cut : List ℕ) × (lost : List ℕ) × (text_of reply ≡ cut ++ lost) × Appends written written' cut) × (marks' ≡ marks) × Rose faults faults'
+    IsCut written written' (text_of reply) × (marks' ≡ marks) × Rose faults faults'
 Tells written written' faults faults' marks marks' (Some NoMemory) reply mark = Appends written written' [] × (marks' ≡ marks)
 Tells written written' faults faults' marks marks' (Some Ended) reply mark = ⊥
 Tells written written' faults faults' marks marks' (Some SourceFault) reply mark = ⊥
@@ -31,13 +32,16 @@ Tells written written' faults faults' marks marks' (Some OverBudget) reply mark 
 -- A round from a stage: what was asked, what it did to sink, folder and store, and whether it ended the run. Each image that a
 -- crash left meanwhile reads as the world before or as the one after it, and each since its end as the one after it.
 pub record IsRound (Stands : World → Type 0) (tells : Bool) (size : ℕ) (folder : Option (List NamedText)) (store store' : View) (stage : Stage) (request : Request)
-    (written written' : Option (List ℕ)) (faults faults' folder_faults folder_faults' bank_faults bank_faults' : ℕ)
+    (written written' : Option (List ℕ)) (faults faults' folder_faults folder_faults' bank_faults bank_faults' journal_faults journal_faults' last_fault : ℕ)
     (marks marks' : List Mark) (status status' : ℕ) (end : Option Ending) (round : Round) : Type 0 where
   pub same : round.asked ≡ request
-  pub turn : IsRoundOf size tells folder stage request round.reply round.after
+  pub turn : IsRoundOf size tells folder stage request round.area round.journal round.reply round.after
   pub stands : Stands round.after.world
   pub first_cause : status' ≡ first_of status (cause_of round.reply)
   pub counted : AreCounted bank_faults (faults_of round.reply) bank_faults'
+  pub area : round.area ≡ last_fault
+  pub journal_counted : AreCounted journal_faults (journal_faults_of round.reply round.area) journal_faults'
+  pub journal_stood : IsTrue tells → (c : Image) × IsSince store' store.moment c × (round.journal ≡ c 0)
   pub folder_counted : AreCounted folder_faults (folder_faults_of round.reply) folder_faults'
   pub moment : IsTrue tells → round.moment ≡ store'.moment
   pub meanwhile : IsTrue tells → LeavesOnly store store' (λ c. ReadsAs size stage.world c ⊎ ReadsAs size round.after.world c)

@@ -1,10 +1,11 @@
 -- What a whole call does.
-use Rattle.std.specs.Prelude.{◌≡◌, ◌≤◌, ◌<◌, ◌⊎◌, ℕ, List, [], ◌++◌, length, Bool, true, IsTrue, IfSome}
+use Rattle.std.specs.Prelude.{◌≡◌, ◌≤◌, ◌<◌, ◌⊎◌, ℕ, List, [], ◌++◌, length, Bool, true, IsTrue, None, IfSome}
 use Rattle.std.specs.List.{list_all}
 use Rattle.std.specs.Io.KnownBytes.{Appends, IsAtEnd}
-use Rattle.site_text.specs.Causes.{Rose}
+use Rattle.base.specs.Causes.{Rose}
+use Rattle.outside.specs.Streams.{IsWritten}
 use Rattle.bank.specs.Content.{Content}
-use Rattle.bank.specs.View.{View}
+use Rattle.bank.specs.View.{View, OnlyRead}
 use Rattle.records.specs.declared.reply.Reply.TheVariants.{BadJournal}
 use Rattle.desk.specs.Texts.{text_of}
 use Rattle.site_history.specs.Steps.{HistoryStep}
@@ -31,19 +32,19 @@ abbrev pub Refusal : Outside → Outside → Bool → Content → ℕ → Type 0
 Refusal old new tells journal status =
     ((status ≡ 3) × Rose old.bank_faults new.bank_faults × Appends old.written new.written [])
     ⊎ ((status ≡ 9) × Appends old.written new.written [])
-    ⊎ ((place : ℕ) × (status ≡ 2) × (IsTrue tells → IsBadJournal journal_bytes journal place) × ((cut : List ℕ) × (lost : List ℕ) × (text_of (BadJournal place) ≡ cut ++ lost) × Appends old.written new.written cut
-    × ((lost ≡ []) ⊎ (cut ≡ []) ⊎ Rose old.sink_faults new.sink_faults)))
+    ⊎ ((place : ℕ) × (status ≡ 2) × (IsTrue tells → IsBadJournal journal_bytes journal place)
+    × IsWritten old.written new.written old.sink_faults new.sink_faults (text_of (BadJournal place)))
 
--- The store was not opened, or no memory was found to read a line; nothing was read. It is as settled as before.
-pub record IsRefused (tells : Bool) (entry store : View) (old new : Outside) (before : List HistoryStep) (marks : List Mark) (status : ℕ) : Type 0 where
+-- The store was not opened, or no memory was found to read a line. Nothing was read of the source and of the folder, and the
+-- store was only read, whatever stands in it; `tells` is whether it tells its content.
+pub record IsRefused (tells : Bool) (entry store : View) (old new : Outside) (marks : List Mark) (status : ℕ) : Type 0 where
   pub unread : new.left ≡ old.left
   pub no_read_failed : new.source_faults ≡ old.source_faults
   pub folder_stays : new.folder ≡ old.folder
   pub folder_unread : new.folder_faults ≡ old.folder_faults
   pub no_marks : marks ≡ []
   pub refusal : Refusal old new tells (entry.content 0) status
-  pub opening : IsTrue tells → IsOpening journal_bytes store entry.moment store.moment before
-  pub settled : IsTrue tells → IsSettled journal_bytes store before
+  pub only_read : IsTrue tells → OnlyRead entry store
 
 -- The store was opened, and a session followed. At its end the store is settled for the last world: for its history, or for
 -- that with the step that is owed.
@@ -52,8 +53,10 @@ pub record IsAnswered (tells : Bool) (budget : ℕ) (entry store : View) (old ne
   pub is_found : IsFound tells before found
   -- the moment at which it was open
   pub opened : ℕ
-  pub opening : IsTrue tells → IsOpening journal_bytes store entry.moment opened before
+  pub opening : IsTrue tells → IsOpening entry store opened
   pub session : IsSession asks_of (λ w. IsTrue tells → IsSettledAs journal_bytes store w) tells journal_bytes budget store (record old { moment = opened }) new (stage_of found) marks status
+  -- a step is owed only after a fault of the journal
+  pub rests : (Rose old.journal_faults new.journal_faults → ⊥) → (stage_after (stage_of found) (session.told ++ session.untold)).world.owed ≡ None
   -- each acknowledged step is held by whatever a crash left since its mark
   pub acknowledged : IsTrue tells → AreHeld journal_bytes store (stage_after (stage_of found) (session.told ++ session.untold)).world.history marks
   -- with status 0 what was written is the machine's output for all that was read; that is fixed but where `configure` was asked
@@ -62,10 +65,11 @@ pub record IsAnswered (tells : Bool) (budget : ℕ) (entry store : View) (old ne
       × (IsTrue (list_all (is_told old.folder) (asks_of bytes true))
       → Appends old.written new.written (output_of journal_bytes (texts_told old.folder) (stage_of found) (asks_of bytes true))))
 
--- What a call does over a store that was settled for a history; `tells` is whether the store tells its content.
-abbrev pub IsOutcome : Bool → ℕ → View → View → Outside → Outside → List HistoryStep → List Mark → ℕ → Type 0
-IsOutcome tells budget entry store old new before marks status =
-    IsAnswered tells budget entry store old new before marks status ⊎ IsRefused tells entry store old new before marks status
+-- What a call does; `tells` is whether the store tells its content. Where `told` that is made use of: the store was then settled
+-- for this history before the call. It was opened, and a session followed; or it was refused, and is as settled as before.
+abbrev pub IsOutcome : Bool → Bool → ℕ → View → View → Outside → Outside → List HistoryStep → List Mark → ℕ → Type 0
+IsOutcome told tells budget entry store old new before marks status = IsAnswered told budget entry store old new before marks status
+    ⊎ (IsRefused tells entry store old new marks status × (IsTrue told → IsSettled journal_bytes store before))
 
 -- The causes of a status, over any store, and what the statuses 0 and 7 mean. `journal` is what stands in the journal's area.
 pub record HasStatus (tells : Bool) (journal : Content) (budget : ℕ) (old new : Outside) (status : ℕ) : Type 0 where

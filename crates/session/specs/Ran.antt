@@ -1,12 +1,12 @@
 -- What a loop over the lines of an input keeps.
 use Rattle.std.specs.Prelude.{◌≡◌, ℕ, List, [], ◌++◌, Bool, true, false, IsTrue}
 use Rattle.std.specs.Io.KnownBytes.{Appends}
-use Rattle.site_text.specs.Causes.{AreCounted}
+use Rattle.base.specs.Causes.{AreCounted}
 use Rattle.bank.specs.View.{View}
 use Rattle.input.specs.Reading.{Reading, Items, Moved}
 use Rattle.site_history.specs.Worlds.{World}
 use Rattle.session.specs.Asking.{Request}
-use Rattle.session.specs.Rounds.{Stage, Round, GoOn, IsRun, stage_after, asked, output, AreInTime, marks_from, status_from, faults_in, folder_faults_in}
+use Rattle.session.specs.Rounds.{Stage, Round, GoOn, IsRun, stage_after, asked, output, AreInTime, marks_from, status_from, faults_in, journal_faults_in, IsLastArea, JournalsStood, folder_faults_in}
 use Rattle.session.specs.Session.{Outside}
 use Rattle.session.specs.Kept.{AreKept}
 use Rattle.session.specs.declared.kept.Mark.{Mark}
@@ -28,6 +28,9 @@ pub record Ran (Asks : Items Request) (Stands : World → Type 0) (tells : Bool)
   pub in_time : IsTrue tells → AreInTime old.moment rounds new.moment
   pub kept : IsTrue tells → AreKept size store old.moment first.world rounds
   pub counted : AreCounted old.bank_faults (faults_in rounds) new.bank_faults
+  pub journal_counted : AreCounted old.journal_faults (journal_faults_in rounds) new.journal_faults
+  pub last_area : IsLastArea rounds new.last_fault
+  pub journals_stood : IsTrue tells → JournalsStood store old.moment rounds
   pub folder_stays : new.folder ≡ old.folder
   pub folder_counted : AreCounted old.folder_faults (folder_faults_in rounds) new.folder_faults
   pub status_now : status ≡ status_from rounds 0

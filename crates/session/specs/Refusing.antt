@@ -1,7 +1,7 @@
 -- What is answered where a store was not opened.
-use Rattle.std.specs.Prelude.{◌≡◌, ◌⊎◌, ℕ, List, [], ◌++◌, Option}
+use Rattle.std.specs.Prelude.{ℕ, List, [], Option}
 use Rattle.std.specs.Io.KnownBytes.{Appends}
-use Rattle.site_text.specs.Causes.{Rose}
+use Rattle.outside.specs.Streams.{IsWritten}
 use Rattle.records.specs.declared.reply.Reply.{Reply}
 use Rattle.desk.specs.Texts.{text_of}
 use Rattle.engine.specs.declared.engine.ShutCause.{ShutCause}
@@ -12,9 +12,8 @@ status_of_shut BankFault = 3
 status_of_shut NoMemory = 9
 status_of_shut (BadJournal place) = 2
 
--- a bad journal is told by its line, which is cut off where the sink fails and not written where no memory is found for it
+-- a bad journal is told by its line, which is cut off where the sink fails
 abbrev pub TellsRefusal : Option (List ℕ) → Option (List ℕ) → ℕ → ℕ → ShutCause → Type 0
 TellsRefusal written written' faults faults' BankFault = Appends written written' []
 TellsRefusal written written' faults faults' NoMemory = Appends written written' []
-TellsRefusal written written' faults faults' (BadJournal place) = (cut : List ℕ) × (lost : List ℕ) × (text_of (Reply.BadJournal place) ≡ cut ++ lost) × Appends written written' cut
-    × ((lost ≡ []) ⊎ (cut ≡ []) ⊎ Rose faults faults')
+TellsRefusal written written' faults faults' (BadJournal place) = IsWritten written written' faults faults' (text_of (Reply.BadJournal place))

@@ -1,6 +1,8 @@
 -- Rounds: what was asked, what was answered, and what followed from it.
-use Rattle.std.specs.Prelude.{◌≡◌, ◌⊎◌, ◌+◌, ◌≤◌, ℕ, max, List, [], ◌∷◌, length, map, flat_map, Bool, ◌&&◌, true, false, cond, nat_eq, Option, Some, None, Ok, Err}
+use Rattle.std.specs.Prelude.{◌≡◌, ◌⊎◌, ◌+◌, ◌≤◌, ℕ, max, List, [], ◌∷◌, length, map, flat_map, Bool, ◌&&◌, ◌==◌, if◌then◌else◌, true, false, cond, nat_eq, Option, Some, None, Ok, Err}
 use Rattle.outside.specs.declared.folder.NamedText.{NamedText}
+use Rattle.bank.specs.Content.{Content, Image}
+use Rattle.bank.specs.View.{View}
 use Rattle.records.specs.declared.event.Asked.TheVariants.{One, At as AskedAt, Configure}
 use Rattle.records.specs.declared.event.Event.{Event}
 use Rattle.records.specs.declared.event.Event.TheVariants.{Configure as ConfigureEvent}
@@ -19,11 +21,16 @@ pub record Stage : Type 0 where
   pub world : World
   pub now : ℕ
 
--- `moment` is the store's after the round
+-- what was asked and answered, and where the run stands then
 pub record Round : Type 0 where
   pub asked : Request
   pub reply : Reply
   pub after : Stage
+  -- the area of the store's last fault after the round
+  pub area : ℕ
+  -- what the journal's area read when the round began
+  pub journal : Content
+  -- the store's moment after the round
   pub moment : ℕ
 
 -- nothing was asked of the machine: this is answered, or want of memory, and all stays
@@ -31,28 +38,28 @@ abbrev pub Answers : Reply → Stage → Reply → Stage → Type 0
 Answers defined stage reply stage' = ((reply ≡ defined) ⊎ (reply ≡ NoMemory)) × (stage' ≡ stage)
 
 -- an event of the machine, at the run's moment
-abbrev pub IsEvent : ℕ → Bool → Stage → Event → Reply → Stage → Type 0
-IsEvent size told stage event reply stage' =
-    (area : ℕ) × (w' : World) × EventTurn size told stage.world event stage.now area reply w' × (stage' ≡ record { world = w'; now = stage.now })
+abbrev pub IsEvent : ℕ → Bool → Stage → Event → ℕ → Content → Reply → Stage → Type 0
+IsEvent size told stage event area journal reply stage' =
+    (w' : World) × EventTurn size told stage.world event stage.now area journal reply w' × (stage' ≡ record { world = w'; now = stage.now })
 
--- One round from a stage, over a journal of this size; `told` is whether the store tells its content, and `folder` what the
--- folder tells. An event is one of the machine. `at` moves the run's moment on. `configure` is the event of the texts that were
--- read of the folder; where they could not be read, all stays. Or no memory was found to read the line. What is asked otherwise
--- is no command.
-abbrev pub IsRoundOf : ℕ → Bool → Option (List NamedText) → Stage → Request → Reply → Stage → Type 0
-IsRoundOf size told folder stage (Err refusal) reply stage' = Answers (Line refusal) stage reply stage'
-IsRoundOf size told folder stage (Ok (One event)) reply stage' = ((reply ≡ NoMemory) × (stage' ≡ stage)) ⊎ IsEvent size told stage event reply stage'
-IsRoundOf size told folder stage (Ok (AskedAt moment)) reply stage' = ((reply ≡ NoMemory) × (stage' ≡ stage))
+-- One round from a stage, over a journal of this size; `told` is whether the store tells its content, `folder` what the folder
+-- tells, `area` that of the store's last fault, and `journal` what the journal's area read when the round began. An event is one
+-- of the machine. `at` moves the run's moment on. `configure` is the event of the texts that were read of the folder; where they
+-- could not be read, all stays. Or no memory was found to read the line. What is asked otherwise is no command.
+abbrev pub IsRoundOf : ℕ → Bool → Option (List NamedText) → Stage → Request → ℕ → Content → Reply → Stage → Type 0
+IsRoundOf size told folder stage (Err refusal) area journal reply stage' = Answers (Line refusal) stage reply stage'
+IsRoundOf size told folder stage (Ok (One event)) area journal reply stage' = ((reply ≡ NoMemory) × (stage' ≡ stage)) ⊎ IsEvent size told stage event area journal reply stage'
+IsRoundOf size told folder stage (Ok (AskedAt moment)) area journal reply stage' = ((reply ≡ NoMemory) × (stage' ≡ stage))
     ⊎ ((reply ≡ At (max moment stage.now)) × (stage' ≡ record { world = stage.world; now = max moment stage.now }))
-IsRoundOf size told folder stage (Ok Configure) reply stage' = (((reply ≡ FolderFault) ⊎ (reply ≡ NoMemory)) × (stage' ≡ stage))
-    ⊎ ((texts : SiteTexts) × AreRead folder texts × IsEvent size told stage (ConfigureEvent texts) reply stage')
-IsRoundOf size told folder stage (Ok _) reply stage' = Answers (Line NotACommand) stage reply stage'
+IsRoundOf size told folder stage (Ok Configure) area journal reply stage' = (((reply ≡ FolderFault) ⊎ (reply ≡ NoMemory)) × (stage' ≡ stage))
+    ⊎ ((texts : SiteTexts) × AreRead folder texts × IsEvent size told stage (ConfigureEvent texts) area journal reply stage')
+IsRoundOf size told folder stage (Ok _) area journal reply stage' = Answers (Line NotACommand) stage reply stage'
 
 -- each round goes on from where the one before it stopped
 abbrev pub IsRun : ℕ → Bool → Option (List NamedText) → Stage → List Round → Type 0
 IsRun size told folder stage [] = Unit {0}
 IsRun size told folder stage (round ∷ rounds) =
-    IsRoundOf size told folder stage round.asked round.reply round.after × IsRun size told folder round.after rounds
+    IsRoundOf size told folder stage round.asked round.area round.journal round.reply round.after × IsRun size told folder round.after rounds
 
 abbrev pub stage_after : Stage → List Round → Stage
 stage_after stage [] = stage
@@ -104,6 +111,26 @@ faults_of _ = 0
 abbrev pub faults_in : List Round → ℕ
 faults_in [] = 0
 faults_in (round ∷ rounds) = faults_of round.reply + faults_in rounds
+
+-- how many faults of the journal a reply tells, by the area of the store's last fault; area 0 is the journal
+abbrev pub journal_faults_of : Reply → ℕ → ℕ
+journal_faults_of BankFault area = if area == 0 then 1 else 0
+journal_faults_of _ area = 0
+
+abbrev pub journal_faults_in : List Round → ℕ
+journal_faults_in [] = 0
+journal_faults_in (round ∷ rounds) = journal_faults_of round.reply round.area + journal_faults_in rounds
+
+-- the store's last fault after the last round lies in this area
+abbrev pub IsLastArea : List Round → ℕ → Type 0
+IsLastArea [] area = Unit {0}
+IsLastArea (round ∷ []) area = round.area ≡ area
+IsLastArea (round ∷ (next ∷ rounds)) area = IsLastArea (next ∷ rounds) area
+
+-- What the journal's area read when a round began stood in the store: a crash since the round before might have left it.
+abbrev pub JournalsStood : View → ℕ → List Round → Type 0
+JournalsStood v from [] = Unit {0}
+JournalsStood v from (round ∷ rounds) = ((c : Image) × v.left_since from c × (round.journal ≡ c 0)) × JournalsStood v round.moment rounds
 
 -- how many faults of the folder a reply tells
 abbrev pub folder_faults_of : Reply → ℕ

@@ -1,12 +1,12 @@
 //! One round: what was asked is answered, the answer is written, and a mark is kept.
 
 ghost use Rattle.std.specs.Prelude.{◌≡◌, ◌≤◌, ◌+◌, length, IsTrue, Bool, Ok};
-ghost use Rattle.site_text.specs.Causes.{AreCounted};
+ghost use Rattle.base.specs.Causes.{AreCounted};
 ghost use Rattle.site_history.specs.Worlds.{World};
 ghost use Rattle.engine.specs.StandsFor.{StandsFor, Moves};
 ghost use Rattle.session.specs.Asking.{Request, reply_to};
 ghost use Rattle.session.specs.Hearing.{IsReadAs};
-ghost use Rattle.session.specs.Rounds.{Stage, Round, IsRoundOf, first_of, cause_of, faults_of, folder_faults_of, ends_run};
+ghost use Rattle.session.specs.Rounds.{Stage, Round, IsRoundOf, first_of, cause_of, faults_of, journal_faults_of, folder_faults_of, ends_run};
 ghost use Rattle.session.specs.OneRound.{IsRound, Tells};
 
 use crate::kept::{Ending, Mark, Session};
@@ -66,11 +66,12 @@ fn configure<B: Bank, P: Drop, F: Folder>(
     folder: &mut F,
 ) -> Reply
     ensures round { (told : Bool) → (IsTrue told → IsTrue B.tells) → (stage : Stage) → StandsFor told B.view engine.old stage.world → stage.now ≡ now
-        → (stage' : Stage) × IsRoundOf engine.old.journal.size told (F.texts folder.old) stage (Ok Asked.Configure) result stage'
+        → (stage' : Stage) × IsRoundOf engine.old.journal.size told (F.texts folder.old) stage (Ok Asked.Configure) (B.last_fault engine.new.bank) ((B.view engine.old.bank).content 0) result stage'
         × Moves told B.view engine.old engine.new stage.world stage'.world × (now ≡ stage'.now)
         × AreCounted (F.faults folder.old) (folder_faults_of result) (F.faults folder.new) }
     ensures counted { AreCounted (B.faults engine.old.bank) (faults_of result) (B.faults engine.new.bank) }
     ensures later { B.faults engine.old.bank ≤ B.faults engine.new.bank }
+    ensures journal_counted { AreCounted (B.journal_faults engine.old.bank) (journal_faults_of result (B.last_fault engine.new.bank)) (B.journal_faults engine.new.bank) }
     ensures folder_texts { F.texts folder.new ≡ F.texts folder.old }
     ensures folder_later { F.faults folder.old ≤ F.faults folder.new }
     ensures size { engine.new.journal.size ≡ engine.old.journal.size }
@@ -95,11 +96,12 @@ fn respond<B: Bank, P: Drop, F: Folder>(
 ) -> Reply
     ensures round { (told : Bool) → (IsTrue told → IsTrue B.tells) → (stage : Stage) → StandsFor told B.view engine.old stage.world → stage.now ≡ now.old
         → (request : Request) → IsReadAs asked request
-        → (stage' : Stage) × IsRoundOf engine.old.journal.size told (F.texts folder.old) stage request result stage'
+        → (stage' : Stage) × IsRoundOf engine.old.journal.size told (F.texts folder.old) stage request (B.last_fault engine.new.bank) ((B.view engine.old.bank).content 0) result stage'
         × Moves told B.view engine.old engine.new stage.world stage'.world × (now.new ≡ stage'.now)
         × AreCounted (F.faults folder.old) (folder_faults_of result) (F.faults folder.new) }
     ensures counted { AreCounted (B.faults engine.old.bank) (faults_of result) (B.faults engine.new.bank) }
     ensures later { B.faults engine.old.bank ≤ B.faults engine.new.bank }
+    ensures journal_counted { AreCounted (B.journal_faults engine.old.bank) (journal_faults_of result (B.last_fault engine.new.bank)) (B.journal_faults engine.new.bank) }
     ensures folder_texts { F.texts folder.new ≡ F.texts folder.old }
     ensures folder_later { F.faults folder.old ≤ F.faults folder.new }
     ensures size { engine.new.journal.size ≡ engine.old.journal.size }
@@ -129,11 +131,13 @@ fn answer<B: Bank, P: Drop, F: Folder>(
 ) -> Reply
     ensures round { (told : Bool) → (IsTrue told → IsTrue B.tells) → (stage : Stage) → StandsFor told B.view session.old.engine stage.world → stage.now ≡ session.old.moment
         → (request : Request) → IsReadAs asked request
-        → (stage' : Stage) × IsRoundOf session.old.engine.journal.size told (F.texts folder.old) stage request result stage'
+        → (stage' : Stage) × IsRoundOf session.old.engine.journal.size told (F.texts folder.old) stage request
+        (B.last_fault session.new.engine.bank) ((B.view session.old.engine.bank).content 0) result stage'
         × Moves told B.view session.old.engine session.new.engine stage.world stage'.world × (session.new.moment ≡ stage'.now)
         × AreCounted (F.faults folder.old) (folder_faults_of result) (F.faults folder.new) }
     ensures counted { AreCounted (B.faults session.old.engine.bank) (faults_of result) (B.faults session.new.engine.bank) }
     ensures later { B.faults session.old.engine.bank ≤ B.faults session.new.engine.bank }
+    ensures journal_counted { AreCounted (B.journal_faults session.old.engine.bank) (journal_faults_of result (B.last_fault session.new.engine.bank)) (B.journal_faults session.new.engine.bank) }
     ensures folder_texts { F.texts folder.new ≡ F.texts folder.old }
     ensures folder_later { F.faults folder.old ≤ F.faults folder.new }
     ensures size { session.new.engine.journal.size ≡ session.old.engine.journal.size }
@@ -209,8 +213,8 @@ pub fn one_round<B: Bank, P: Drop, F: Folder, O: Sink>(
         → (request : Request) → IsReadAs asked request → (round : Round)
         × IsRound (StandsFor told B.view session.new.engine) told session.old.engine.journal.size (F.texts folder.old) (B.view session.old.engine.bank) (B.view session.new.engine.bank) stage request
         (O.written output.old) (O.written output.new) (O.faults output.old) (O.faults output.new) (F.faults folder.old) (F.faults folder.new)
-        (B.faults session.old.engine.bank) (B.faults session.new.engine.bank)
-        session.old.marks.items session.new.marks.items session.old.status session.new.status result round
+        (B.faults session.old.engine.bank) (B.faults session.new.engine.bank) (B.journal_faults session.old.engine.bank) (B.journal_faults session.new.engine.bank)
+        (B.last_fault session.new.engine.bank) session.old.marks.items session.new.marks.items session.old.status session.new.status result round
         × (session.new.moment ≡ round.after.now) }
     ensures size { session.new.engine.journal.size ≡ session.old.engine.journal.size }
     ensures patterns { session.new.engine.patterns ≡ session.old.engine.patterns }

@@ -1,27 +1,27 @@
 //! Runs.
 
-ghost use Rattle.std.specs.Prelude.{◌≡◌, ◌≢◌, ◌≤◌, [], false, Bool, IsTrue, List as Seq};
+ghost use Rattle.std.specs.Prelude.{◌≡◌, ◌≢◌, ◌≤◌, ℕ, [], false, Bool, IsTrue, List as Seq};
 ghost use Rattle.input.specs.Reading.{Begins};
 ghost use Rattle.site_history.specs.Steps.{HistoryStep};
 ghost use Rattle.site_history.specs.Images.{IsSettled};
+ghost use Rattle.site_history.specs.Journals.{IsBadJournal};
 ghost use Rattle.engine.specs.StandsFor.{StandsFor};
 ghost use Rattle.session.specs.Asking.{asks_of};
 ghost use Rattle.session.specs.Rounds.{Stage, first_of};
 ghost use Rattle.session.specs.Kept.{Passes};
 ghost use Rattle.session.specs.Session.{IsSession, seen, status_of};
 ghost use Rattle.session.specs.Refusing.{TellsRefusal, status_of_shut};
-ghost use Rattle.session.specs.Outcomes.{journal_bytes, IsOutcome, HasStatus};
+ghost use Rattle.session.specs.Outcomes.{journal_bytes, IsRefused, IsOutcome, HasStatus};
 
 use crate::hearing::{Heard, hear};
 use crate::kept::{Ending, Mark, Session};
 use crate::round::{first_cause, one_round};
 use bank::Bank;
-use desk::write_reply;
+use base::List;
+use desk::write_bad_journal;
 use engine::{Engine, Shut, ShutCause};
 use input::Reader;
-use outside::{Clock, Folder, Patterns, Sink, Source, write_all};
-use records::Reply;
-use site_text::List;
+use outside::{Clock, Folder, Patterns, Sink, Source};
 use std::alloc::Global;
 
 /// The size of the journal's area, in bytes.
@@ -56,8 +56,8 @@ pub fn converse<B: Bank, P: Drop, F: Folder, I: Source, O: Sink>(
     requires fresh { Begins reader.old.budget reader.old }
     ensures session { (told : Bool) → (IsTrue told → IsTrue B.tells) → (stage : Stage) → StandsFor told B.view session.old.engine stage.world → session.old.moment ≡ stage.now
         → IsSession asks_of (StandsFor told B.view session.new.engine) told session.old.engine.journal.size reader.old.budget (B.view session.new.engine.bank)
-        (seen I.left I.faults O.written O.faults F.texts F.faults B.faults B.view input.old output.old folder.old session.old.engine.bank)
-        (seen I.left I.faults O.written O.faults F.texts F.faults B.faults B.view input.new output.new folder.new session.new.engine.bank)
+        (seen I.left I.faults O.written O.faults F.texts F.faults B.faults B.journal_faults B.last_fault B.view input.old output.old folder.old session.old.engine.bank)
+        (seen I.left I.faults O.written O.faults F.texts F.faults B.faults B.journal_faults B.last_fault B.view input.new output.new folder.new session.new.engine.bank)
         stage session.new.marks.items (first_of session.new.status (status_of result)) }
     // Time goes on.
     ensures passes { (told : Bool) → (IsTrue told → IsTrue B.tells) → (stage : Stage) → StandsFor told B.view session.old.engine stage.world → session.old.moment ≡ stage.now
@@ -98,22 +98,22 @@ fn code(ending: Ending) -> u8
     }
 }
 
-/// Answers a store that was not opened: of a bad journal its line is written.
-fn refuse<O: Sink>(alloc: Global, cause: ShutCause, output: &mut O) -> u8
+/// Answers a store that was not opened: of a bad journal its line is written, which takes no memory. Where the sink fails the
+/// status stays that of the bad journal, which came first.
+fn refuse<O: Sink>(cause: ShutCause, output: &mut O) -> u8
     ensures status { result ≡ status_of_shut cause }
     ensures bytes { TellsRefusal (O.written output.old) (O.written output.new) (O.faults output.old) (O.faults output.new) cause }
     ensures later { O.faults output.old ≤ O.faults output.new }
     ensures beside { O.beside output.new ≡ O.beside output.old }
 {
-    let place = match cause {
-        ShutCause::BankFault => return 3,
-        ShutCause::NoMemory => return 9,
-        ShutCause::BadJournal(place) => place,
-    };
-    if let Ok(text) = write_reply(alloc, &Reply::BadJournal(place)) {
-        let _ = write_all(output, text.as_slice());
+    match cause {
+        ShutCause::BankFault => 3,
+        ShutCause::NoMemory => 9,
+        ShutCause::BadJournal(place) => {
+            let _ = write_bad_journal(output, place);
+            2
+        }
     }
-    2
 }
 
 /// What is handed back after a session.
@@ -154,17 +154,22 @@ pub fn run_lines<B: Bank, C: Clock, F: Folder, P: Patterns, I: Source, O: Sink>(
     // Over a store that is settled for a history, or over any store that tells nothing: what was read, asked, answered and
     // written, what ended the run, and what each crash meanwhile may leave.
     ensures outcome { (told : Bool) → (IsTrue told → IsTrue B.tells) → (before : Seq HistoryStep) → (IsTrue told → IsSettled journal_bytes (B.view bank) before)
-        → IsOutcome told budget (B.view bank) (B.view result.bank)
-        (seen I.left I.faults O.written O.faults F.texts F.faults B.faults B.view input.old output.old folder.old bank)
-        (seen I.left I.faults O.written O.faults F.texts F.faults B.faults B.view input.new output.new folder.new result.bank)
+        → IsOutcome told B.tells budget (B.view bank) (B.view result.bank)
+        (seen I.left I.faults O.written O.faults F.texts F.faults B.faults B.journal_faults B.last_fault B.view input.old output.old folder.old bank)
+        (seen I.left I.faults O.written O.faults F.texts F.faults B.faults B.journal_faults B.last_fault B.view input.new output.new folder.new result.bank)
         before result.marks result.status }
     // The causes of the status, over any store, and what the statuses 0, 2 and 7 mean.
     ensures status { HasStatus B.tells ((B.view bank).content 0) budget
-        (seen I.left I.faults O.written O.faults F.texts F.faults B.faults B.view input.old output.old folder.old bank)
-        (seen I.left I.faults O.written O.faults F.texts F.faults B.faults B.view input.new output.new folder.new result.bank)
+        (seen I.left I.faults O.written O.faults F.texts F.faults B.faults B.journal_faults B.last_fault B.view input.old output.old folder.old bank)
+        (seen I.left I.faults O.written O.faults F.texts F.faults B.faults B.journal_faults B.last_fault B.view input.new output.new folder.new result.bank)
         result.status }
     // The journal of a settled store is never bad.
     ensures good { IsTrue B.tells → (before : Seq HistoryStep) → IsSettled journal_bytes (B.view bank) before → result.status ≢ 2 }
+    // A store whose journal is bad is refused, and only read.
+    ensures spared { IsTrue B.tells → (place : ℕ) → IsBadJournal journal_bytes ((B.view bank).content 0) place → IsRefused B.tells (B.view bank) (B.view result.bank)
+        (seen I.left I.faults O.written O.faults F.texts F.faults B.faults B.journal_faults B.last_fault B.view input.old output.old folder.old bank)
+        (seen I.left I.faults O.written O.faults F.texts F.faults B.faults B.journal_faults B.last_fault B.view input.new output.new folder.new result.bank)
+        result.marks result.status }
     ensures patterns { result.patterns ≡ patterns }
     ensures clock { clock.new ≡ clock.old }
     ensures folder { F.texts folder.new ≡ F.texts folder.old }
@@ -181,7 +186,7 @@ pub fn run_lines<B: Bank, C: Clock, F: Folder, P: Patterns, I: Source, O: Sink>(
                 bank,
                 patterns,
             } = shut;
-            let status = refuse(alloc, refusal, output);
+            let status = refuse(refusal, output);
             return Outcome {
                 status,
                 marks: List::new(alloc),

@@ -1,4 +1,4 @@
-//! A run that is asked to configure writes what the plain program writes.
+//! What a run writes that is asked to configure.
 
 use crate::runs::expect_with;
 use crate::texts::texts_of;

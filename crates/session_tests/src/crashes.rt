@@ -1,35 +1,18 @@
-//! What is left of a site after a crash at each moment, and after each call of the store failed once, as the plain program has it.
+//! What is left of a site after a crash at each moment, and after each call of the store failed once.
 
+use crate::left::{CHANGES, Change, READS, read_after};
 use crate::texts::{folder_of, texts_of};
 use bank::{Bank, BankCall, FailAt, MemoryBank};
+use base::{Bytes, List};
 use outside::{LiteralPatterns, MemoryClock, MemorySink, MemorySource};
-use plain_session::plain_output;
 use records::{CommandFile, SiteTexts};
 use session::{Mark, run_lines};
-use site_text::{Bytes, List};
 use std::alloc::Global;
 use std::process::Abort;
 use std::test::Fail;
 
 /// A cache of four blocks.
 const SITE: &[u8] = b"cache = 16K\n";
-
-/// Lines that change a site. Each has an answer of one line.
-const CHANGES: [&[u8]; 10] = [
-    b"put /a u g hi\n",
-    b"put /b u g yo\n",
-    b"put /a u g again\n",
-    b"rm /b\n",
-    b"rm /a\n",
-    b"configure\n",
-    b"make /c u g 5000 7\n",
-    b"put /b u g ho\n",
-    b"put /a u g\n",
-    b"rm /b\n",
-];
-
-/// Lines that read what they leave. The last one tells whether the cache has more than four blocks.
-const READS: &[u8] = b"cat /a\ncat /b\nhead /c 4097\nmake /d u g 16385 0\n";
 
 /// No call has so high a number.
 const CALLS: u64 = 22;
@@ -72,31 +55,23 @@ fn run(alloc: Global, bank: MemoryBank, texts: &SiteTexts, text: &[u8]) -> Resul
     })
 }
 
-// The first lines that change a site.
-fn changes(alloc: Global, count: usize) -> Result<Vec<u8>, Fail> {
+// All lines that change a site.
+fn all_changes(alloc: Global) -> Result<Vec<u8>, Fail> {
     let mut text = Vec::new(alloc);
-    for line in CHANGES.iter().take(count) {
+    for (line, _) in CHANGES {
         text.extend_from_slice(line)?;
     }
     Ok(text)
 }
 
-// What the plain program reads behind these lines.
-fn plain_read(alloc: Global, lines: &[u8]) -> Result<Bytes, Fail> {
-    let texts = site_texts(alloc)?;
-    let before = plain_output(alloc, lines, &texts)?;
-    let mut text = lines.to_vec(alloc)?;
-    text.extend_from_slice(READS)?;
-    let answers = plain_output(alloc, &text, &texts)?;
-    let read = answers.as_slice().get(before.len()..).unwrap_or(&[]);
-    Ok(Bytes::from_slice(alloc, read)?)
-}
-
-// The same for each count of the first lines that change a site, from 0.
-fn plain_reads(alloc: Global) -> Result<Vec<Bytes>, Fail> {
+// What the first of them leave, for each count of them, from 0.
+fn reads_of_prefixes(alloc: Global) -> Result<Vec<Vec<u8>>, Fail> {
     let mut reads = Vec::new(alloc);
-    for count in 0..=CHANGES.len() {
-        reads.push(plain_read(alloc, &changes(alloc, count)?)?)?;
+    let mut made = Vec::new(alloc);
+    reads.push(read_after(alloc, &made)?)?;
+    for (_, change) in CHANGES {
+        made.push(change)?;
+        reads.push(read_after(alloc, &made)?)?;
     }
     Ok(reads)
 }
@@ -121,14 +96,14 @@ fn crash_at(
     rt: &impl Abort,
     alloc: Global,
     left: &Left,
-    plain: &[Bytes],
+    reads: &[Vec<u8>],
     moment: u64,
 ) -> Result<(), Fail> {
     let told = answered(left.marks.as_slice(), moment);
     for pick in 0..3 {
         let read = read_back(alloc, &left.bank, moment, pick)?;
-        let mut near = plain.iter().skip(told).take(2);
-        let is_near = near.any(|plain| plain.as_slice() == read.as_slice());
+        let mut near = reads.iter().skip(told).take(2);
+        let is_near = near.any(|left| left.as_slice() == read.as_slice());
         assert!(rt; is_near);
     }
     Ok(())
@@ -137,37 +112,32 @@ fn crash_at(
 #[test]
 fn a_crash_at_each_moment_leaves_what_was_answered(rt: HostRuntime) -> Result<(), Fail> {
     let alloc = rt.alloc();
-    let all = changes(alloc, CHANGES.len())?;
+    let all = all_changes(alloc)?;
     let left = run(alloc, fresh(alloc)?, &site_texts(alloc)?, &all)?;
     assert_eq!(rt; left.marks.len(), CHANGES.len());
-    let plain = plain_reads(alloc)?;
+    let reads = reads_of_prefixes(alloc)?;
     for moment in 0..=left.bank.moment() {
-        crash_at(&rt, alloc, &left, &plain, moment)?;
+        crash_at(&rt, alloc, &left, &reads, moment)?;
     }
     Ok(())
 }
 
-// The lines whose answer is `ok`.
-fn acknowledged(alloc: Global, answers: &[u8]) -> Result<Vec<u8>, Fail> {
-    let mut text = Vec::new(alloc);
-    for (line, answer) in CHANGES.iter().zip(answers.split(|byte| *byte == b'\n')) {
+// What the lines changed whose answer is `ok`.
+fn acknowledged(alloc: Global, answers: &[u8]) -> Result<Vec<Change>, Fail> {
+    let mut made = Vec::new(alloc);
+    for ((_, change), answer) in CHANGES.iter().zip(answers.split(|byte| *byte == b'\n')) {
         if answer.starts_with(b"ok") {
-            text.extend_from_slice(line)?;
+            made.push(*change)?;
         }
     }
-    Ok(text)
+    Ok(made)
 }
 
 // Runs all lines over a store of which this call fails.
 fn failing_run(alloc: Global, area: u32, call: BankCall, number: u64) -> Result<Left, Fail> {
     let fail = [FailAt { area, call, number }].to_vec(alloc)?;
     let bank = MemoryBank::new(alloc, List::from_vec(fail))?;
-    run(
-        alloc,
-        bank,
-        &site_texts(alloc)?,
-        &changes(alloc, CHANGES.len())?,
-    )
+    run(alloc, bank, &site_texts(alloc)?, &all_changes(alloc)?)
 }
 
 // What was acknowledged is there; the line at whose end the journal failed may be, and then all lines went well.
@@ -177,18 +147,27 @@ fn is_kept(rt: &impl Abort, alloc: Global, left: &Left, all: &[u8]) -> Result<()
         return Ok(());
     }
     let kept = acknowledged(alloc, left.written.as_slice())?;
-    let plain = plain_read(alloc, &kept)?;
-    assert!(rt; plain.as_slice() == read.as_slice());
+    let expected = read_after(alloc, &kept)?;
+    assert!(rt; expected.as_slice() == read.as_slice());
     Ok(())
+}
+
+// What all lines leave.
+fn read_of_all(alloc: Global) -> Result<Vec<u8>, Fail> {
+    let mut made = Vec::new(alloc);
+    for (_, change) in CHANGES {
+        made.push(change)?;
+    }
+    read_after(alloc, &made)
 }
 
 // So it is after each call of an area failed.
 fn each_is_kept(rt: &impl Abort, alloc: Global, area: u32) -> Result<(), Fail> {
-    let all = plain_read(alloc, &changes(alloc, CHANGES.len())?)?;
+    let all = read_of_all(alloc)?;
     for call in [BankCall::Read, BankCall::Write, BankCall::Sync] {
         for number in 1..CALLS {
             let left = failing_run(alloc, area, call, number)?;
-            is_kept(rt, alloc, &left, all.as_slice())?;
+            is_kept(rt, alloc, &left, &all)?;
         }
     }
     Ok(())
@@ -211,12 +190,11 @@ fn each_call_of_the_cache_that_fails_leaves_what_was_acknowledged(
 #[test]
 fn no_call_has_so_high_a_number(rt: HostRuntime) -> Result<(), Fail> {
     let alloc = rt.alloc();
-    let all = changes(alloc, CHANGES.len())?;
     for area in 0..2 {
         for call in [BankCall::Read, BankCall::Write, BankCall::Sync] {
             let left = failing_run(alloc, area, call, CALLS)?;
             let kept = acknowledged(alloc, left.written.as_slice())?;
-            assert!(rt; kept == all);
+            assert_eq!(rt; kept.len(), CHANGES.len());
         }
     }
     Ok(())
@@ -225,12 +203,42 @@ fn no_call_has_so_high_a_number(rt: HostRuntime) -> Result<(), Fail> {
 #[test]
 fn a_reopened_site_has_the_cache_that_it_was_configured_with(rt: HostRuntime) -> Result<(), Fail> {
     let alloc = rt.alloc();
-    for lines in [b"configure\n".as_slice(), b"configure\nput /a u g hi\n"] {
+    let table: [(&[u8], &[Change]); 2] = [
+        (b"configure\n", &[Change::Small]),
+        (
+            b"configure\nput /a u g hi\n",
+            &[Change::Small, Change::A(b"hi")],
+        ),
+    ];
+    for (lines, made) in table {
         let left = run(alloc, fresh(alloc)?, &site_texts(alloc)?, lines)?;
         let read = read_again(alloc, left.bank)?;
-        assert!(rt; read.as_slice().ends_with(b"refused: no space\n"));
-        let plain = plain_read(alloc, lines)?;
-        assert!(rt; plain.as_slice() == read.as_slice());
+        let expected = read_after(alloc, made)?;
+        assert!(rt; expected.as_slice() == read.as_slice());
     }
+    Ok(())
+}
+
+#[test]
+fn a_reopening_that_fails_is_tried_again(rt: HostRuntime) -> Result<(), Fail> {
+    let alloc = rt.alloc();
+    // Opening syncs the journal once; a record is synced before its gate and behind it.
+    let fail = [
+        FailAt {
+            area: 0,
+            call: BankCall::Sync,
+            number: 3,
+        },
+        FailAt {
+            area: 0,
+            call: BankCall::Sync,
+            number: 4,
+        },
+    ];
+    let bank = MemoryBank::new(alloc, List::from_vec(fail.to_vec(alloc)?))?;
+    let lines = b"put /a u g hi\nput /b u g yo\nput /b u g ho\ncat /a\n";
+    let left = run(alloc, bank, &SiteTexts::empty(alloc), lines)?;
+    let answers: &[u8] = b"fault: bank\nfault: bank\nok 2\nbytes 2\nhi\n";
+    assert!(rt; left.written.as_slice() == answers);
     Ok(())
 }

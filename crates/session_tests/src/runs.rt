@@ -1,17 +1,16 @@
-//! A run over memory writes what the plain program writes.
+//! What a run over memory writes.
 
 use crate::texts::folder_of;
 use bank::MemoryBank;
+use base::{Bytes, List};
 use outside::{LiteralPatterns, MemoryClock, MemorySink, MemorySource};
-use plain_session::plain_output;
 use records::SiteTexts;
 use session::run_lines;
-use site_text::{Bytes, List};
 use std::alloc::Global;
 use std::process::Abort;
 use std::test::Fail;
 
-/// Runs a text both ways, where the command files have these texts. The answers are these.
+/// Runs a text where the command files have these texts. The answers are these.
 pub fn expect_with(
     rt: &impl Abort,
     alloc: Global,
@@ -19,8 +18,6 @@ pub fn expect_with(
     text: &[u8],
     answers: &[u8],
 ) -> Result<(), Fail> {
-    let plain = plain_output(alloc, text, texts)?;
-    assert!(rt; plain.as_slice() == answers);
     let bank = MemoryBank::new(alloc, List::new(alloc))?;
     let mut input = MemorySource::new(Bytes::from_slice(alloc, text)?, 7, List::new(alloc));
     let mut output = MemorySink::new(alloc, 5, List::new(alloc));
@@ -45,7 +42,7 @@ fn expect(rt: &impl Abort, alloc: Global, text: &[u8], answers: &[u8]) -> Result
 }
 
 #[test]
-fn a_run_writes_what_the_plain_program_writes(rt: HostRuntime) -> Result<(), Fail> {
+fn a_run_writes_these_answers(rt: HostRuntime) -> Result<(), Fail> {
     let alloc = rt.alloc();
     let table: [(&[u8], &[u8]); 12] = [
         (b"", b""),

@@ -1,8 +1,8 @@
 //! Command files for tests: their texts, and a folder of them.
 
+use base::{Bytes, List};
 use outside::{MemoryFolder, NamedText};
 use records::{CommandFile, SiteTexts};
-use site_text::{Bytes, List};
 use std::alloc::{AllocError, Global};
 
 /// The texts of these files. The others are empty.

@@ -8,8 +8,8 @@ use Rattle.journal.proofs.Held.{now_has}
 use Rattle.records.specs.Written.{written}
 use Rattle.site_history.specs.Site.{Site}
 use Rattle.site_history.specs.Steps.{HistoryStep, effect, IsLegal, HasBytes}
-use Rattle.site_history.specs.Histories.{after, IsHistory}
-use Rattle.site_history.specs.Images.{extents, AllStand, written_forms, Reads}
+use Rattle.site_history.specs.Histories.{after, IsHistory, written_forms}
+use Rattle.site_history.specs.Images.{extents, AllStand, Reads}
 use Rattle.site_history.specs.Pinned.{StandInAll, IsPinned, put_extents}
 use Rattle.site_history.proofs.HistoryLaws.{after-push, history-push}
 use Rattle.site_history.proofs.Extents.{site_in_cache, stand_along, others_image}

@@ -13,7 +13,8 @@ use Rattle.records.specs.declared.reply.Reply.TheVariants.{Refused}
 use Rattle.records.specs.declared.reply.Rule.TheVariants.{TooLarge, Running}
 use Rattle.records.specs.declared.step.StepKind.TheVariants.{Configured}
 use Rattle.configuration.specs.declared.read.FileRefusal.{FileRefusal}
-use Rattle.configuration.specs.Readings.{AreWithin, are_within, refusal_of, blocks_of}
+use Rattle.configuration.specs.ConfigurationRules.{AreWithin}
+use Rattle.configuration.specs.ConfigurationSteps.{are_within, refusal_of, blocks_of}
 use Rattle.configuration.proofs.Laws.{within-all, all-within}
 use Rattle.cache_space.specs.Space.{taken_by}
 use Rattle.site_history.specs.Site.{Fields, Site, held_runs, cache_blocks}

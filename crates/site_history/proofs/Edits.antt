@@ -8,7 +8,7 @@ use Rattle.std.specs.Option.{option_map_or}
 use Rattle.std.specs.List.{remove}
 use Rattle.records.specs.declared.file.FileRec.{FileRec}
 use Rattle.records.specs.declared.file.SiteTexts.{SiteTexts}
-use Rattle.configuration.specs.Readings.{blocks_of}
+use Rattle.configuration.specs.ConfigurationSteps.{blocks_of}
 use Rattle.cache_space.specs.Space.{taken_by, AreApart}
 use Rattle.site_history.specs.Site.{Fields, Site, file_at, held_runs, with_file, cache_blocks}
 use Rattle.site_history.specs.Steps.{PutOf, stored_file, put_effect, accessed_effect, removed_effect, configured_effect}

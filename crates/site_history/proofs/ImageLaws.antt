@@ -2,12 +2,12 @@
 use Rattle.std.proofs.Common.{◌≡◌, ◌≢◌, inl, ℕ, ◌+◌, ◌-◌, ◌<◌, Bool, true, false, cond, ◌==◌, List, [], ◌∷◌, refl, sym, ◌∙◌, ap, subst, arith}
 use Rattle.std.proofs.lemmas.Bool.{eq-eqb, eqb-true}
 use Rattle.bank.specs.Content.{Content, Image, Stands, Same}
-use Rattle.bank.specs.View.{View, IsImage, IsSound}
+use Rattle.bank.specs.View.{View, IsImage, IsSound, OnlyContent}
 use Rattle.bank.proofs.Spans.{Stands-same}
 use Rattle.journal.proofs.Held.{agreeing_holds, fresh_holds}
 use Rattle.site_history.specs.Steps.{HistoryStep}
-use Rattle.site_history.specs.Histories.{after, IsHistory}
-use Rattle.site_history.specs.Images.{Extent, extents, AllStand, written_forms, Reads, SameAt, AgreeingReadAlike, IsSettled}
+use Rattle.site_history.specs.Histories.{after, IsHistory, written_forms}
+use Rattle.site_history.specs.Images.{Extent, extents, AllStand, Reads, SameAt, AgreeingReadAlike, IsSettled}
 use Rattle.site_history.specs.Pinned.{StandInAll, IsPinned}
 
 -- An image with this content in one area, and elsewhere what a read gives.
@@ -98,4 +98,11 @@ pub fresh_settled : (size : ℕ) (v : View) → IsSound v → ((c : Image) → I
 fresh_settled size v sound shut = record {
   now = fresh_reads size v.content (shut v.content sound.reads_as_image);
   each = λ c image. inl (fresh_reads size c (shut c image));
+}
+
+-- A store of which a crash leaves what it reads is settled for the history as which it reads.
+pub crashed_settled : (size : ℕ) (v : View) (steps : List HistoryStep) → ((area : ℕ) → OnlyContent area v) → Reads size v.content steps → IsSettled size v steps
+crashed_settled size v steps only reads = record {
+  now = reads;
+  each = λ c image. inl (same_read size v.content c steps (λ a. only a (c a) (image a)) reads);
 }

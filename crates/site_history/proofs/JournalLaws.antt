@@ -9,8 +9,7 @@ use Rattle.records.specs.Written.{written, InRange}
 use Rattle.records.proofs.Steps.{one_form}
 use Rattle.site_history.specs.Site.{Fields, Site, first_site}
 use Rattle.site_history.specs.Steps.{HistoryStep, fields_after, effect, IsLegal}
-use Rattle.site_history.specs.Histories.{after_from, after, IsHistoryFrom, IsHistory, journal_length}
-use Rattle.site_history.specs.Images.{written_forms}
+use Rattle.site_history.specs.Histories.{after_from, after, IsHistoryFrom, IsHistory, journal_length, written_forms}
 use Rattle.site_history.specs.Journals.{HoldsHistory, HasBadStep, IsBadJournal}
 
 -- The steps of a history without their bytes.

@@ -23,3 +23,4 @@ pub mod Accesses
 pub mod Configuring
 pub mod Turns
 pub mod Answered
+pub mod Refusing

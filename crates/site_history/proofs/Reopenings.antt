@@ -1,5 +1,5 @@
 -- A reopening decides whether the step that is owed is there.
-use Rattle.std.proofs.Common.{◌≡◌, inl, inr, ⊎_elim, ℕ, List, [], ◌∷◌, ◌++◌, length, Option, Some, None, true, refl, sym, ◌∙◌, ap, subst, arith, length-append}
+use Rattle.std.proofs.Common.{◌≡◌, inl, inr, ⊎_elim, ℕ, List, [], ◌∷◌, ◌++◌, length, Option, Some, None, refl, sym, ◌∙◌, ap, subst, arith, length-append}
 use Rattle.std.proofs.lemmas.List.{length-map}
 use Rattle.bank.specs.Content.{Image, Same}
 use Rattle.bank.specs.View.{View, IsImage, IsSound, OnlyContent, OnlyRead, LeavesOnly}
@@ -8,9 +8,9 @@ use Rattle.journal.specs.Records.{HoldsRecords}
 use Rattle.journal.proofs.RecordLaws.{holds-same, one_list}
 use Rattle.records.specs.Written.{written}
 use Rattle.site_history.specs.Steps.{HistoryStep}
-use Rattle.site_history.specs.Histories.{after, IsHistory}
-use Rattle.site_history.specs.Worlds.{World, IsReopened}
-use Rattle.site_history.specs.Images.{extents, written_forms, Reads, ReadsNear, IsSettled, ReadsAs, IsSettledAs}
+use Rattle.site_history.specs.Histories.{after, IsHistory, written_forms}
+use Rattle.site_history.specs.Worlds.{World, IsWithOrWithout}
+use Rattle.site_history.specs.Images.{extents, Reads, ReadsNear, IsSettled, ReadsAs, IsSettledAs}
 use Rattle.site_history.specs.Journals.{HoldsHistory, IsBadJournal}
 use Rattle.site_history.specs.Pinned.{IsPinned}
 use Rattle.site_history.proofs.ImageLaws.{pinned_by_images, same_read, stand_in_fewer}
@@ -73,7 +73,7 @@ module _ (size : ℕ) (v : View) (only : OnlyContent 0 v) (payloads : List (List
   module _ (w : World) (sound : IsSound v) (images : (c : Image) → IsImage v c → ReadsAs size w c) where
     -- What a reopening leads to: each image reads as the one history whose records were read.
     abbrev pub LeadsTo : List HistoryStep → Type 0
-    LeadsTo steps = IsReopened true w steps × (payloads ≡ written_forms steps) × IsHistory steps × ((c : Image) → IsImage v c → Reads size c steps)
+    LeadsTo steps = IsWithOrWithout w steps × (payloads ≡ written_forms steps) × IsHistory steps × ((c : Image) → IsImage v c → Reads size c steps)
 
     without_step : Reads size v.content w.history → LeadsTo w.history
     without_step now =
@@ -93,7 +93,7 @@ module _ (size : ℕ) (v : View) (only : OnlyContent 0 v) (payloads : List (List
         )
 
     -- A reopening leads to the history, or to that with the step that is owed, and then each image reads as it.
-    pub decided : (steps : List HistoryStep) × IsReopened true w steps × (payloads ≡ written_forms steps) × IsHistory steps × ((c : Image) → IsImage v c → Reads size c steps)
+    pub decided : (steps : List HistoryStep) × IsWithOrWithout w steps × (payloads ≡ written_forms steps) × IsHistory steps × ((c : Image) → IsImage v c → Reads size c steps)
     decided = ⊎_elim
         (λ now. let h = without_step now in (w.history, h.0, h.1, h.2, h.3))
         (λ now. let h = with_owed now.0 now.1 now.2 in (w.history ++ now.0 ∷ [], h.0, h.1, h.2, h.3))

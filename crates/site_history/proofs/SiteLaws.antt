@@ -13,10 +13,10 @@ use Rattle.records.specs.declared.file.Run.{Run}
 use Rattle.records.specs.declared.file.SiteTexts.{SiteTexts}
 use Rattle.records.specs.declared.step.StepKind.{StepKind}
 use Rattle.records.specs.declared.step.StepKind.TheVariants.{Configured, Put, Accessed, Removed}
-use Rattle.records.specs.Paths.{is_legal_path, is_legal_name}
+use Rattle.base.specs.Paths.{is_legal_path, is_legal_name}
 use Rattle.records.specs.Ranges.{IsInode}
 use Rattle.records.proofs.InRange.{ranges}
-use Rattle.configuration.specs.Readings.{blocks_of}
+use Rattle.configuration.specs.ConfigurationSteps.{blocks_of}
 use Rattle.records.specs.Texts.{no_texts}
 use Rattle.configuration.proofs.Laws.{blocks-range}
 use Rattle.cache_space.specs.Blocks.{blocks_for}

@@ -6,7 +6,7 @@ use Rattle.std.proofs.Common.{◌≡◌, ℕ, ◌<◌, ◌≤◌, ◌^◌, List,
 use Rattle.std.specs.Prelude.{IsTrue}
 use Rattle.std.specs.List.{AllByRecursion}
 use Rattle.std.proofs.lemmas.Bool.Decides.{nat_tests}
-use Rattle.records.specs.Paths.{is_legal_path, is_legal_name}
+use Rattle.base.specs.Paths.{is_legal_path, is_legal_name}
 use Rattle.records.specs.declared.file.SiteTexts.{SiteTexts}
 use Rattle.records.specs.Lengths.{step_length}
 use Rattle.records.specs.Ranges.{IsRun, IsInode}
@@ -16,7 +16,7 @@ use Rattle.records.proofs.InRange.{in_range}
 use Rattle.records.specs.declared.step.Step.{Step}
 use Rattle.records.specs.declared.step.StepKind.{StepKind}
 use Rattle.records.specs.declared.step.StepKind.TheVariants.{Configured, Put, Accessed, Removed}
-use Rattle.configuration.specs.Readings.{AreWithin}
+use Rattle.configuration.specs.ConfigurationRules.{AreWithin}
 use Rattle.cache_space.specs.Blocks.{blocks_for}
 use Rattle.journal.specs.Records.{IsPayload}
 use Rattle.site_history.specs.Site.{Fields}

@@ -1,9 +1,9 @@
 -- What a site answers where nothing fails, and the step that the answer makes.
-use Rattle.std.specs.Prelude.{ℕ, ◌&&◌, ◌||◌, nat_le, nat_lt, Bool, not, if◌then◌else◌, Option, Some, None, is_none, option_map, List, [], length, take}
+use Rattle.std.specs.Prelude.{◌≡◌, ◌⊎◌, ℕ, ◌&&◌, ◌||◌, nat_le, nat_lt, Bool, not, if◌then◌else◌, Option, Some, None, is_none, option_map, List, [], length, take}
 use Rattle.records.specs.declared.event.Event.{Event}
 use Rattle.records.specs.declared.event.Event.TheVariants.{Put as PutEvent, Read as ReadEvent, Remove as RemoveEvent, Configure as ConfigureEvent}
 use Rattle.records.specs.declared.reply.Reply.{Reply}
-use Rattle.records.specs.declared.reply.Reply.TheVariants.{Stored, Done, Bytes, Refused, ConfRefused, Line}
+use Rattle.records.specs.declared.reply.Reply.TheVariants.{Stored, Done, Bytes, Refused, ConfRefused, Line, BankFault, NoMemory}
 use Rattle.records.specs.declared.reply.Rule.{Rule}
 use Rattle.records.specs.declared.reply.Rule.TheVariants.{NoFile, BadPath, BadAttribute, TooLarge, TooMany, NoSpace, Running}
 use Rattle.records.specs.declared.reply.LineRefusal.TheVariants.{NotACommand}
@@ -12,9 +12,11 @@ use Rattle.records.specs.declared.step.StepKind.{StepKind}
 use Rattle.records.specs.declared.step.StepKind.TheVariants.{Configured, Put, Accessed, Removed}
 use Rattle.records.specs.declared.file.FileRec.{FileRec}
 use Rattle.records.specs.declared.file.SiteTexts.{SiteTexts}
-use Rattle.records.specs.Paths.{is_legal_path, is_legal_name}
+use Rattle.base.specs.Paths.{is_legal_path, is_legal_name}
 use Rattle.configuration.specs.declared.read.FileRefusal.{FileRefusal}
-use Rattle.configuration.specs.Readings.{are_within, refusal_of}
+use Rattle.configuration.specs.ConfigurationRules.{AreWithin}
+use Rattle.configuration.specs.ConfigurationSteps.{are_within, refusal_of}
+use Rattle.configuration.specs.ConfigurationRules.{IsFirstWrong}
 use Rattle.cache_space.specs.Blocks.{blocks_for, free_blocks, lowest_runs}
 use Rattle.site_history.specs.Site.{Fields, FileBytes, Site, file_at, held_runs, bytes_of, cache_blocks}
 use Rattle.site_history.specs.Steps.{HistoryStep, PutOf, inode_for}
@@ -107,6 +109,14 @@ configure_answer_by None moment texts = record { reply = Done 0; step = Some (ba
 
 abbrev pub configure_answer : Fields → ℕ → SiteTexts → Answer
 configure_answer fields moment texts = configure_answer_by (configure_refusal fields texts) moment texts
+
+-- A reply to a configuration by these texts tells that a command file is wrong where that file, at that line and with that fault, is
+-- the first that is wrong, the site has no file and each text is within its limit, and nowhere else. A fault of the store or want
+-- of memory may come before it.
+pub record TellsFirstWrong (fields : Fields) (texts : SiteTexts) (reply : Reply) : Type 0 where
+  pub nowhere_else : (refusal : FileRefusal) → reply ≡ conf_refused refusal → (fields.files ≡ []) × AreWithin texts × IsFirstWrong texts refusal
+  pub there : (refusal : FileRefusal) → fields.files ≡ [] → AreWithin texts → IsFirstWrong texts refusal
+      → (reply ≡ conf_refused refusal) ⊎ (reply ≡ BankFault) ⊎ (reply ≡ NoMemory)
 
 -- what is answered to an event at a moment; an event of a kind that is not served is no command
 abbrev pub answer_to : Site → ℕ → Event → Answer

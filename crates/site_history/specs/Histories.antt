@@ -1,5 +1,5 @@
 -- Histories: lists of steps, each legal in its place.
-use Rattle.std.specs.Prelude.{ℕ, ◌+◌, List, [], ◌∷◌, length}
+use Rattle.std.specs.Prelude.{ℕ, ◌+◌, List, [], ◌∷◌, length, map}
 use Rattle.records.specs.Written.{written}
 use Rattle.site_history.specs.Site.{Site, first_site}
 use Rattle.site_history.specs.Steps.{HistoryStep, effect, IsLegal, HasBytes}
@@ -23,3 +23,7 @@ IsHistory steps = IsHistoryFrom first_site steps
 abbrev pub journal_length : List HistoryStep → ℕ
 journal_length [] = 0
 journal_length (made ∷ steps) = 5 + length (written made.step) + journal_length steps
+
+-- the written forms of a history
+abbrev pub written_forms : List HistoryStep → List (List ℕ)
+written_forms steps = map (λ (made : HistoryStep). written made.step) steps

@@ -1,14 +1,13 @@
 -- What an image of the store says of a site.
-use Rattle.std.specs.Prelude.{◌≡◌, ◌⊎◌, ℕ, ◌+◌, ◌*◌, ◌<◌, Some, List, [], ◌∷◌, ◌++◌, length, take, drop, map, flat_map}
+use Rattle.std.specs.Prelude.{◌≡◌, ◌⊎◌, ℕ, ◌+◌, ◌*◌, ◌<◌, Some, List, [], ◌∷◌, ◌++◌, length, take, drop, flat_map}
 use Rattle.bank.specs.Content.{Image, Stands}
 use Rattle.bank.specs.View.{View, IsImage}
 use Rattle.journal.specs.Records.{HoldsRecords}
 use Rattle.records.specs.declared.file.FileRec.{FileRec}
 use Rattle.records.specs.declared.file.Run.{Run}
-use Rattle.records.specs.Written.{written}
 use Rattle.site_history.specs.Site.{FileBytes, Site, bytes_of}
 use Rattle.site_history.specs.Steps.{HistoryStep}
-use Rattle.site_history.specs.Histories.{after, IsHistory}
+use Rattle.site_history.specs.Histories.{after, IsHistory, written_forms}
 use Rattle.site_history.specs.Worlds.{World}
 
 -- bytes at a place of an area
@@ -34,21 +33,12 @@ abbrev pub AllStand : Image → List Extent → Type 0
 AllStand c [] = Unit {0}
 AllStand c (e ∷ es) = Stands (c e.area) e.place e.bytes × AllStand c es
 
--- the written forms of a history
-abbrev pub written_forms : List HistoryStep → List (List ℕ)
-written_forms steps = map (λ (made : HistoryStep). written made.step) steps
-
 -- The image reads as this history: its journal, in an area of this size, holds the written forms of its steps, and the bytes
 -- of each file stand at its runs.
 pub record Reads (size : ℕ) (c : Image) (steps : List HistoryStep) : Type 0 where
   pub history : IsHistory steps
   pub records : HoldsRecords (c 0) 0 (written_forms steps) size
   pub bytes : AllStand c (extents (after steps))
-
--- What the store reads is an image of this history, and so is each image that a crash may leave.
-pub record IsFirm (size : ℕ) (v : View) (steps : List HistoryStep) : Type 0 where
-  pub now : Reads size v.content steps
-  pub each : (c : Image) → IsImage v c → Reads size c steps
 
 -- the image reads as the history, as that without its last step, or as that with one further step
 abbrev pub ReadsNear : ℕ → List HistoryStep → Image → Type 0

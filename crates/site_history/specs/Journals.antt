@@ -5,8 +5,7 @@ use Rattle.journal.specs.Records.{IsRecord, AreRecords, HoldsRecords, IsBadAt, e
 use Rattle.records.specs.declared.step.Step.{Step}
 use Rattle.records.specs.Written.{written}
 use Rattle.site_history.specs.Steps.{HistoryStep, IsLegal}
-use Rattle.site_history.specs.Histories.{after, IsHistory}
-use Rattle.site_history.specs.Images.{written_forms}
+use Rattle.site_history.specs.Histories.{after, IsHistory, written_forms}
 
 -- it holds the records of this history
 pub record HoldsHistory (size : ℕ) (c : Content) (steps : List HistoryStep) : Type 0 where

@@ -8,8 +8,8 @@ use Rattle.records.specs.declared.step.StepKind.{StepKind}
 use Rattle.records.specs.declared.step.StepKind.TheVariants.{Put}
 use Rattle.cache_space.specs.Blocks.{is_in_runs}
 use Rattle.site_history.specs.Steps.{HistoryStep}
-use Rattle.site_history.specs.Histories.{after}
-use Rattle.site_history.specs.Images.{Extent, extents, extents_over, written_forms}
+use Rattle.site_history.specs.Histories.{after, written_forms}
+use Rattle.site_history.specs.Images.{Extent, extents, extents_over}
 
 -- each extent stands in whatever a crash leaves of its area
 abbrev pub StandInAll : View → List Extent → Type 0

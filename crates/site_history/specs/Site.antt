@@ -5,7 +5,7 @@ use Rattle.std.specs.Str.{bytes_eq}
 use Rattle.records.specs.declared.file.FileRec.{FileRec}
 use Rattle.records.specs.declared.file.Run.{Run}
 use Rattle.records.specs.declared.file.SiteTexts.{SiteTexts}
-use Rattle.configuration.specs.Readings.{blocks_of}
+use Rattle.configuration.specs.ConfigurationSteps.{blocks_of}
 use Rattle.records.specs.Texts.{no_texts}
 
 -- what a site keeps, without any byte of a file

@@ -11,9 +11,10 @@ use Rattle.records.specs.declared.step.Step.{Step}
 use Rattle.records.specs.declared.step.StepKind.{StepKind}
 use Rattle.records.specs.declared.step.StepKind.TheVariants.{Configured, Put, Accessed, Removed}
 use Rattle.records.specs.Copies.{no_copies}
-use Rattle.records.specs.Paths.{is_legal_path, is_legal_name}
+use Rattle.base.specs.Paths.{is_legal_path, is_legal_name}
 use Rattle.records.specs.Written.{InRange}
-use Rattle.configuration.specs.Readings.{AreWithin, refusal_of}
+use Rattle.configuration.specs.ConfigurationRules.{AreWithin}
+use Rattle.configuration.specs.ConfigurationSteps.{refusal_of}
 use Rattle.cache_space.specs.Blocks.{blocks_for}
 use Rattle.cache_space.specs.Space.{AreFree, AreMaximal, blocks_in}
 use Rattle.site_history.specs.Site.{Fields, FileBytes, Site, file_at, held_runs, with_file, with_bytes, cache_blocks}

@@ -1,13 +1,16 @@
 -- A world: a history, the clock, and what a fault in the journal left open. And what one event does to it.
 use Rattle.std.specs.Prelude.{◌≡◌, ◌⊎◌, ℕ, ◌+◌, ◌-◌, ◌^◌, min, max, ◌==◌, nat_le, Bool, true, false, if◌then◌else◌, Option, Some, None, List, [], ◌∷◌, ◌++◌, length}
+use Rattle.bank.specs.Content.{Content}
 use Rattle.records.specs.Written.{written}
 use Rattle.records.specs.declared.event.Event.{Event}
+use Rattle.records.specs.declared.file.SiteTexts.{SiteTexts}
 use Rattle.records.specs.declared.reply.Reply.{Reply}
 use Rattle.records.specs.declared.reply.Reply.TheVariants.{Bytes, NoMemory, JournalFull, BankFault, BadJournal}
 use Rattle.site_history.specs.Site.{Site}
 use Rattle.site_history.specs.Steps.{HistoryStep}
 use Rattle.site_history.specs.Histories.{after, IsHistory, journal_length}
-use Rattle.site_history.specs.Answers.{Answer, answer_to}
+use Rattle.site_history.specs.Journals.{HoldsHistory}
+use Rattle.site_history.specs.Answers.{Answer, answer_to, TellsFirstWrong}
 
 pub record World : Type 0 where
   pub history : List HistoryStep
@@ -77,11 +80,15 @@ TurnBy Owes told answer history moment reply w' = w' ≡ record { history = hist
 abbrev pub Turn : ℕ → Bool → List HistoryStep → Event → ℕ → ℕ → Reply → World → Type 0
 Turn size told history event moment area reply w' = TurnBy (course_of reply area) told (answer_in size history moment event) history moment reply w'
 
--- Where a reopening leads: to the history, or to that with the step that is owed. A store that tells nothing may lead to any
--- history, that of the journal as it was read.
-abbrev pub IsReopened : Bool → World → List HistoryStep → Type 0
-IsReopened true w steps = (steps ≡ w.history) ⊎ ((made : HistoryStep) × (w.owed ≡ Some made) × (steps ≡ w.history ++ made ∷ []))
-IsReopened false w steps = IsHistory steps
+-- the history, or that with the step that is owed
+abbrev pub IsWithOrWithout : World → List HistoryStep → Type 0
+IsWithOrWithout w steps = (steps ≡ w.history) ⊎ ((made : HistoryStep) × (w.owed ≡ Some made) × (steps ≡ w.history ++ made ∷ []))
+
+-- Where a reopening leads: to the history or to that with the step that is owed, whichever the journal's area, as it read when
+-- the event began, holds the records of. A store that tells nothing may lead to any history, that of the journal as it was read.
+abbrev pub IsReopened : Bool → ℕ → Content → World → List HistoryStep → Type 0
+IsReopened true size read w steps = IsWithOrWithout w steps × HoldsHistory size read steps
+IsReopened false size read w steps = IsHistory steps
 
 -- the clock then: it stays, but where a store that tells nothing leads to a history that ends later
 abbrev pub clock_from : Bool → World → List HistoryStep → ℕ
@@ -96,15 +103,28 @@ RefusesReopening told (BadJournal place) = told ≡ false
 RefusesReopening told _ = ⊥
 
 -- an event where a reopening is due or not
-abbrev pub EventTurnBy : Bool → ℕ → Bool → World → Event → ℕ → ℕ → Reply → World → Type 0
-EventTurnBy false size told w event now area reply w' = Turn size told w.history event (moment_of w.clock now) area reply w'
-EventTurnBy true size told w event now area reply w' =
-    ((steps : List HistoryStep) × IsReopened told w steps × Turn size told steps event (moment_of (clock_from told w steps) now) area reply w')
+abbrev pub EventTurnBy : Bool → ℕ → Bool → World → Event → ℕ → ℕ → Content → Reply → World → Type 0
+EventTurnBy false size told w event now area read reply w' = Turn size told w.history event (moment_of w.clock now) area reply w'
+EventTurnBy true size told w event now area read reply w' =
+    ((steps : List HistoryStep) × IsReopened told size read w steps × Turn size told steps event (moment_of (clock_from told w steps) now) area reply w')
     ⊎ (RefusesReopening told reply × (w' ≡ w))
 
--- An event in a world: a turn; where a reopening is due, a turn from where that leads, or the reopening is refused.
-abbrev pub EventTurn : ℕ → Bool → World → Event → ℕ → ℕ → Reply → World → Type 0
-EventTurn size told w event now area reply w' = EventTurnBy w.due size told w event now area reply w'
+-- An event in a world: a turn; where a reopening is due, a turn from where that leads, or the reopening is refused. `read` is what
+-- the journal's area read when the event began.
+abbrev pub EventTurn : ℕ → Bool → World → Event → ℕ → ℕ → Content → Reply → World → Type 0
+EventTurn size told w event now area read reply w' = EventTurnBy w.due size told w event now area read reply w'
+
+-- the history over which an event is served, where a reopening is due or not: one to which that may lead, or the world's
+abbrev pub IsServedOver : Bool → ℕ → Bool → World → Content → List HistoryStep → Type 0
+IsServedOver false size told w read steps = steps ≡ w.history
+IsServedOver true size told w read steps = IsReopened told size read w steps
+
+-- An event that configures the site by these texts tells the first command file that is wrong, of the site over which it is
+-- served; or a reopening that is due is refused before.
+abbrev pub TellsConfiguration : ℕ → Bool → World → Content → SiteTexts → Reply → Type 0
+TellsConfiguration size told w read texts reply =
+    ((steps : List HistoryStep) × IsServedOver w.due size told w read steps × TellsFirstWrong (after steps).fields texts reply)
+    ⊎ ((w.due ≡ true) × RefusesReopening told reply)
 
 -- the history that a store is opened with: that for which it is settled; where it tells nothing, that of the journal as read
 abbrev pub IsFound : Bool → List HistoryStep → List HistoryStep → Type 0

@@ -1,9 +1,10 @@
 //! Laws of images.
 
-ghost use Rattle.std.specs.Prelude.{◌≢◌, ℕ, [], IsTrue};
+ghost use Rattle.std.specs.Prelude.{◌≢◌, ℕ, List, [], IsTrue};
 ghost use Rattle.bank.specs.Content.{Image};
-ghost use Rattle.bank.specs.View.{IsImage};
-ghost use Rattle.site_history.specs.Images.{AgreeingReadAlike, IsSettled};
+ghost use Rattle.bank.specs.View.{IsImage, OnlyContent};
+ghost use Rattle.site_history.specs.Steps.{HistoryStep};
+ghost use Rattle.site_history.specs.Images.{AgreeingReadAlike, Reads, IsSettled};
 
 use bank::Bank;
 
@@ -17,6 +18,15 @@ pub fn agreeing_read_alike()
 /// premise of a first run. It does nothing when it is called; its clause is the law.
 pub fn fresh_store_is_settled<B: Bank>(bank: &B)
     ensures { IsTrue B.tells → (size : ℕ) → ((c : Image) → IsImage (B.view bank.now) c → c 0 0 ≢ 1) → IsSettled size (B.view bank.now) [] }
+{
+    let _ = bank;
+}
+
+/// A store that reads as a history, and of which a crash leaves what it reads, is settled for that history: that is the premise
+/// of a run after a crash. It does nothing when it is called; its clause is the law.
+pub fn store_after_a_crash_is_settled<B: Bank>(bank: &B)
+    ensures { IsTrue B.tells → (size : ℕ) → (steps : List HistoryStep) → ((area : ℕ) → OnlyContent area (B.view bank.now))
+        → Reads size (B.view bank.now).content steps → IsSettled size (B.view bank.now) steps }
 {
     let _ = bank;
 }

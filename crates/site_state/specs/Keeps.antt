@@ -1,7 +1,7 @@
 -- What a site keeps in memory of what a history leaves.
 use Rattle.std.specs.Prelude.{◌≡◌}
 use Rattle.cache_space.specs.Space.{taken_by}
-use Rattle.configuration.specs.Says.{Says}
+use Rattle.configuration.specs.ConfigurationRules.{Says}
 use Rattle.site_history.specs.Site.{Fields, held_runs, cache_blocks}
 use Rattle.site_state.specs.declared.state.SiteState.{SiteState}
 

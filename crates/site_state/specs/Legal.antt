@@ -4,7 +4,7 @@ use Rattle.records.specs.declared.step.Step.{Step}
 use Rattle.records.specs.declared.step.StepKind.{StepKind}
 use Rattle.records.specs.declared.step.StepKind.TheVariants.{Configured}
 use Rattle.records.specs.Written.{InRange}
-use Rattle.configuration.specs.Readings.{AreWithin}
+use Rattle.configuration.specs.ConfigurationRules.{AreWithin}
 use Rattle.site_history.specs.Site.{Fields}
 use Rattle.site_history.specs.Steps.{IsLegal}
 

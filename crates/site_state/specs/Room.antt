@@ -4,8 +4,8 @@ use Rattle.records.specs.declared.file.SiteTexts.{SiteTexts}
 use Rattle.records.specs.declared.step.Step.{Step}
 use Rattle.records.specs.declared.step.StepKind.{StepKind}
 use Rattle.records.specs.declared.step.StepKind.TheVariants.{Configured, Put}
-use Rattle.configuration.specs.Readings.{blocks_of}
-use Rattle.configuration.specs.Says.{Says}
+use Rattle.configuration.specs.ConfigurationSteps.{blocks_of}
+use Rattle.configuration.specs.ConfigurationRules.{Says}
 use Rattle.cache_space.specs.Space.{taken_by}
 use Rattle.site_history.specs.Site.{file_at}
 use Rattle.site_state.specs.declared.state.SiteState.{SiteState}

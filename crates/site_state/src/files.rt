@@ -14,8 +14,8 @@ use crate::path_index::{
     index_of_inode, index_of_path, is_above_all, place_for_path, place_of_file,
 };
 use crate::stored::{PutFields, store_over};
+use base::List;
 use records::{FileRec, Run};
-use site_text::List;
 use std::alloc::{AllocError, Global};
 use std::marker::Model;
 
@@ -102,13 +102,14 @@ impl Files {
         self.by_path.reserve(1)
     }
 
-    /// Adds a file of a path that no file has, for which there is room, behind the others. Its inode is above theirs; where it is
-    /// not, nothing is added.
+    /// Adds a file of a path that no file has, for which there is room, behind the others, where its inode is above theirs. Where
+    /// it is not, nothing is added.
     pub fn push(&mut self, file: FileRec)
         requires room { 0 < self.old.room }
         requires inode { IsInode file.inode }
         requires path { file_at file.path self.old.list ≡ None }
-        ensures { All (λ (other : Rec). other.inode < file.inode) self.old.list → self.new.list ≡ self.old.list ++ file ∷ [] }
+        ensures added { All (λ (other : Rec). other.inode < file.inode) self.old.list → self.new.list ≡ self.old.list ++ file ∷ [] }
+        ensures stays { (All (λ (other : Rec). other.inode < file.inode) self.old.list → ⊥) → self.new.list ≡ self.old.list }
     {
         // A new file has the next inode, which is above all that any file had.
         if !is_above_all(&self.items, file.inode) {

@@ -1,7 +1,7 @@
 //! Which steps may come.
 
 ghost use Rattle.std.specs.Prelude.{◌≡◌, ◌<◌, ◌≤◌, ◌↔◌, ℕ, IsTrue, MatchOption, length};
-ghost use Rattle.records.specs.Paths.{is_legal_path, is_legal_name};
+ghost use Rattle.base.specs.Paths.{is_legal_path, is_legal_name};
 ghost use Rattle.records.specs.Written.{InRange};
 ghost use Rattle.cache_space.specs.Blocks.{blocks_for};
 ghost use Rattle.cache_space.specs.Space.{AreFree, AreMaximal, blocks_in};
@@ -11,9 +11,10 @@ ghost use Rattle.site_state.specs.Legal.{MayCome, AreTextsWithin};
 ghost use Rattle.site_state.specs.Keeps.{Keeps};
 
 use crate::state::SiteState;
+use base::{is_legal_name, is_legal_path};
 use cache_space::{are_maximal, blocks_needed, have_blocks};
 use configuration::are_within;
-use records::{Run, Step, StepKind, is_legal_name, is_legal_path};
+use records::{Run, Step, StepKind};
 
 /// The most bytes of a file.
 pub const FILE_MAX: u64 = 16_777_216;

@@ -15,6 +15,6 @@ mod stored;
 
 pub use files::Files;
 pub use prepare::{Prepared, Setting};
-pub use replays::{ReplayRefusal, replay};
+pub use replays::ReplayRefusal;
 pub use rule::Place;
 pub use state::SiteState;

@@ -6,15 +6,15 @@ ghost use Rattle.std.specs.List.{AllByRecursion};
 ghost use Rattle.records.specs.Ranges.{IsInode, IsRun};
 ghost use Rattle.cache_space.specs.Blocks.{blocks_for, free_blocks, lowest_runs};
 ghost use Rattle.cache_space.specs.Space.{AreMaximal};
-ghost use Rattle.configuration.specs.Says.{Says};
+ghost use Rattle.configuration.specs.ConfigurationRules.{Says};
 ghost use Rattle.site_history.specs.Site.{Fields, file_at, held_runs, cache_blocks};
 ghost use Rattle.site_state.specs.Keeps.{Keeps};
 
 use crate::state::SiteState;
+use base::List;
 use cache_space::blocks_needed;
 use configuration::Configuration;
 use records::{FileRec, Run};
-use site_text::List;
 use std::alloc::AllocError;
 
 impl SiteState {

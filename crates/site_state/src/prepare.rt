@@ -2,8 +2,8 @@
 
 ghost use Rattle.std.specs.Prelude.{◌≡◌, None, IfOk, IfErr, IfSome, OnOk, MatchOption};
 ghost use Rattle.records.specs.Written.{InRange};
-ghost use Rattle.configuration.specs.Readings.{AreWithin, refusal_of};
-ghost use Rattle.configuration.specs.Says.{TellsRefusal};
+ghost use Rattle.configuration.specs.ConfigurationRules.{AreWithin};
+ghost use Rattle.configuration.specs.ConfigurationSteps.{refusal_of, TellsRefusal};
 ghost use Rattle.site_history.specs.Site.{Fields};
 ghost use Rattle.site_history.specs.Steps.{IsLegal};
 ghost use Rattle.site_state.specs.Room.{IsSettingOf, IsPrepared};

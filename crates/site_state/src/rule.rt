@@ -1,20 +1,22 @@
 //! The rules of events.
 
 ghost use Rattle.std.specs.Prelude.{◌≡◌, ◌+◌, ◌<◌, ◌≤◌, ◌^◌, None, Some, Option, is_none, length, IfNone, IfSome, IfOk, IfErr, OnOk, IsTrue, false, option_map};
-ghost use Rattle.records.specs.Paths.{is_legal_path, is_legal_name};
+ghost use Rattle.base.specs.Paths.{is_legal_path, is_legal_name};
 ghost use Rattle.records.specs.Ranges.{IsInode};
 ghost use Rattle.site_history.specs.Site.{Fields, file_at};
 ghost use Rattle.site_history.specs.Steps.{inode_for};
 ghost use Rattle.records.specs.declared.reply.Reply.TheVariants.{Refused};
-ghost use Rattle.configuration.specs.Readings.{AreWithin, refusal_of};
+ghost use Rattle.configuration.specs.ConfigurationRules.{AreWithin};
+ghost use Rattle.configuration.specs.ConfigurationSteps.{refusal_of};
 ghost use Rattle.site_history.specs.Answers.{put_rule, is_full, lacks_space, configure_refusal, conf_refused};
 ghost use Rattle.site_state.specs.Keeps.{Keeps};
 
 use crate::legal::{FILE_MAX, FILES_MAX, INODE_MAX};
 use crate::state::SiteState;
+use base::{is_legal_name, is_legal_path};
 use cache_space::blocks_needed;
 use configuration::are_within;
-use records::{Rule, SiteTexts, is_legal_name, is_legal_path};
+use records::{Rule, SiteTexts};
 
 /// Where a put goes.
 #[derive(Clone, Copy)]

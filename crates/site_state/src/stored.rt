@@ -4,8 +4,8 @@ ghost use Rattle.std.specs.Prelude.{◌≡◌, ◌+◌, ◌<◌, ◌^◌, None, 
 ghost use Rattle.site_history.specs.Steps.{stored_file};
 ghost use Rattle.site_state.specs.Fields.{put_of};
 
+use base::{Bytes, List};
 use records::{CopySlots, FileRec, ReleaseKind, Run, StageKind};
-use site_text::{Bytes, List};
 
 /// The fields of a put's step.
 #[derive(Drop)]

@@ -9,7 +9,8 @@ use Rattle.std.proofs.lemmas.Str.{digit_value_digit}
 use Rattle.std.proofs.lemmas.List.{drop_more, drop_all}
 use Rattle.std.proofs.Math.Nat.{pow-suc, pow-le-pow_right, mul-le-mul_left, mul_comm, mul-lt-mul_of_pos_right}
 use Rattle.std.proofs.lemmas.Nat.{pow-add}
-use Rattle.site_text.specs.Numbers.{fitting_from, with_digit, has_length, number_in, within, number_within}
+use Rattle.site_text.specs.Numbers.{has_length, number_in, within, number_within}
+use Rattle.site_text.specs.NumberSteps.{fitting_from, with_digit}
 
 pub grows : (n : ℕ) (ds : List ℕ) → n ≤ digits_value_after 10 n ds
 grows n [] = omega arith

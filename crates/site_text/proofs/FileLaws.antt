@@ -1,13 +1,22 @@
 -- Reading the lines of a file one after the other, as a loop does.
-use Rattle.std.proofs.Common.{◌≡◌, ℕ, ◌+◌, ◌<◌, ◌≤◌, List, [], ◌∷◌, ◌++◌, length, take, drop, get_or, Option, Err, refl, sym, ap, ◌∙◌, subst, inl}
-use Rattle.std.proofs.lemmas.List.{take_more, take_all, take-append-drop, drop_more}
+use Rattle.std.proofs.Common.{◌≡◌, ℕ, ◌+◌, ◌<◌, ◌≤◌, List, [], ◌∷◌, ◌++◌, length, take, drop, get_or, Option, Err, refl, sym, ap, ◌∙◌, subst, inl, append_assoc}
+use Rattle.std.proofs.lemmas.List.{take_more, take_all, take-append-drop, drop_more, append-nil}
 use Rattle.site_text.specs.declared.line.Line.{Line}
 use Rattle.site_text.specs.declared.fault.ConfFault.{ConfFault}
 use Rattle.site_text.specs.declared.fault.LineError.{LineError}
 use Rattle.site_text.specs.declared.fault.LineError.TheVariants.{Fault, NoMemory}
 use Rattle.site_text.specs.Faults.{refused_at}
 use Rattle.site_text.specs.Fields.{Read, Fails}
-use Rattle.site_text.specs.Files.{LinesSay, FirstWrongLine, LinesAnswer}
+use Rattle.site_text.specs.FileRules.{LinesSayBehind, LinesSay, FirstWrongLine, LinesAnswer}
+
+-- one more line behind those that said these readings
+pub more_said : {R : Type 0} (LineSays : List R → Line → R → Type 0) (before : List R) (front : List Line) (said : List R) (line : Line) (r : R) → LinesSayBehind LineSays before front said → LineSays (before ++ said) line r
+    → LinesSayBehind LineSays before (front ++ line ∷ []) (said ++ r ∷ [])
+more_said {R} LineSays before [] [] line r all says = let P : List R → Type 0 = λ b. LineSays b line r in (subst P (append-nil before) says, tt)
+more_said LineSays before [] (s ∷ said) line r all says = absurd all
+more_said LineSays before (l ∷ front) [] line r all says = absurd all
+more_said {R} LineSays before (l ∷ front) (s ∷ said) line r (first, all) says =
+    let P : List R → Type 0 = λ b. LineSays b line r in (first, more_said LineSays (before ++ s ∷ []) front said line r all (subst P (sym (append_assoc before (s ∷ []) said)) says))
 
 -- what the lines before a place said and told
 pub record Standing {R C : Type 0} (LineSays : List R → Line → R → Type 0) (Tells : List R → C → Type 0) (lines : List Line) (i : ℕ) (known : C) : Type 0 where
@@ -22,13 +31,13 @@ cut_there : {A : Type 0} (xs : List A) (i : ℕ) (x : A) → i < length xs → x
 cut_there xs i x lt item = sym (take-append-drop i xs) ∙ ap (λ (t : _). take i xs ++ t) (drop_more xs i x lt ∙ ap (λ (y : _). y ∷ drop (i + 1) xs) (sym item))
 
 pub starts : {R C : Type 0} (LineSays : List R → Line → R → Type 0) (Tells : List R → C → Type 0) (lines : List Line) (known : C) → Tells [] known → Standing LineSays Tells lines 0 known
-starts LineSays Tells lines known tells = record { said = []; lines_say = refl; tells = tells }
+starts LineSays Tells lines known tells = record { said = []; lines_say = tt; tells = tells }
 
 pub goes_on : {R C : Type 0} (LineSays : List R → Line → R → Type 0) (Tells : List R → C → Type 0) (lines : List Line) (i : ℕ) (known known' : C) (line : Line) (r : R)
-    → (s : Standing LineSays Tells lines i known) → i < length lines → line ≡ get_or lines i line → LineSays s.said line r → Tells (r ∷ s.said) known' → Standing LineSays Tells lines (i + 1) known'
+    → (s : Standing LineSays Tells lines i known) → i < length lines → line ≡ get_or lines i line → LineSays s.said line r → Tells (s.said ++ r ∷ []) known' → Standing LineSays Tells lines (i + 1) known'
 goes_on LineSays Tells lines i known known' line r s lt item says tells = record {
-  said = r ∷ s.said;
-  lines_say = (take i lines, line, one_more lines i line lt item, s.lines_say, says);
+  said = s.said ++ r ∷ [];
+  lines_say = (let P : List Line → Type 0 = λ ls. LinesSay LineSays ls (s.said ++ r ∷ []) in subst P (sym (one_more lines i line lt item)) (more_said LineSays [] (take i lines) s.said line r s.lines_say says));
   tells = tells;
 }
 

@@ -12,7 +12,9 @@ use Rattle.site_text.specs.declared.fault.ConfFault.TheVariants as faults
 use Rattle.site_text.specs.declared.fault.ConfRefusal.{ConfRefusal}
 use Rattle.site_text.specs.Lines.{physical_lines, line_of_byte, ends_continued, lines_of}
 use Rattle.site_text.specs.Fields.{Read}
-use Rattle.site_text.specs.Files.{LineReader, LinesSay, FirstWrongLine, IsText, NotTextAt, FileSays, FileWrong, at_line, read_lines, closed_reading, file_reading}
+use Rattle.site_text.specs.FileRules.{LinesSayBehind, LinesSay, FirstWrongLine, IsText, NotTextAt, FileSays, FileWrong}
+use Rattle.site_text.specs.FileSteps.{LineReader, at_line, read_lines, closed_reading, file_reading}
+use Rattle.site_text.proofs.FileLaws.{more_said}
 
 abbrev then_read : {A B : Type 0} → Result A ConfRefusal → (A → Result B ConfRefusal) → Result B ConfRefusal
 then_read (Ok x) go = go x
@@ -30,17 +32,25 @@ next_line number (Err fault) go step more is = refl
 
 steps-append : {R : Type 0} (line : LineReader R) (before : List R) (front rest : List Line) → read_lines line before (front ++ rest) ≡ then_read (read_lines line before front) (λ said. read_lines line said rest)
 steps-append line before [] rest = refl
-steps-append line before (l ∷ front) rest = next_line l.number (line before l) (λ r. read_lines line (r ∷ before) (front ++ rest)) (λ r. read_lines line (r ∷ before) front) (λ said. read_lines line said rest) (λ r. steps-append line (r ∷ before) front rest)
+steps-append line before (l ∷ front) rest = next_line l.number (line before l) (λ r. read_lines line (before ++ r ∷ []) (front ++ rest)) (λ r. read_lines line (before ++ r ∷ []) front) (λ said. read_lines line said rest) (λ r. steps-append line (before ++ r ∷ []) front rest)
 
 -- ---- the relation gives the steps
 
+abbrev read_so_far : {R : Type 0} → List R → Result (List R) ConfRefusal
+read_so_far said = Ok said
+
+lines_read_behind : {R : Type 0} (line : LineReader R) (LineSays : List R → Line → R → Type 0) (LineWrong : List R → Line → ConfFault → Type 0) → Agrees line LineSays LineWrong
+    → (before : List R) (lines : List Line) (said : List R) → LinesSayBehind LineSays before lines said → read_lines line before lines ≡ Ok (before ++ said)
+lines_read_behind {R} line LineSays LineWrong agrees before [] [] all = ap (read_so_far {R = R}) (sym (append-nil before))
+lines_read_behind line LineSays LineWrong agrees before [] (r ∷ said) all = absurd all
+lines_read_behind line LineSays LineWrong agrees before (l ∷ lines) [] all = absurd all
+lines_read_behind {R} line LineSays LineWrong agrees before (l ∷ lines) (r ∷ said) (says, all) =
+    let this = (agrees.says before l r).1 says in
+    rw this (lines_read_behind line LineSays LineWrong agrees (before ++ r ∷ []) lines said all ∙ ap (read_so_far {R = R}) (append_assoc before (r ∷ []) said))
+
 lines_read : {R : Type 0} (line : LineReader R) (LineSays : List R → Line → R → Type 0) (LineWrong : List R → Line → ConfFault → Type 0) → Agrees line LineSays LineWrong
     → (lines : List Line) (said : List R) → LinesSay LineSays lines said → read_lines line [] lines ≡ Ok said
-lines_read line LineSays LineWrong agrees lines [] is = rw is refl
-lines_read line LineSays LineWrong agrees lines (r ∷ said) (front, l, cut, before, says) =
-    let first = lines_read line LineSays LineWrong agrees front said before in
-    let this = (agrees.says said l r).1 says in
-    ap (read_lines line []) cut ∙ steps-append line [] front (l ∷ []) ∙ rw (first, this) refl
+lines_read line LineSays LineWrong agrees lines said all = lines_read_behind line LineSays LineWrong agrees [] lines said all
 
 abbrev refused_there : {A : Type 0} → ConfFault → ℕ → Result A ConfRefusal
 refused_there fault line = Err (record { line = line; fault = fault })
@@ -61,16 +71,16 @@ Judges LineSays LineWrong lines (Err refusal) = FirstWrongLine LineSays LineWron
 judged : {R : Type 0} (line : LineReader R) (LineSays : List R → Line → R → Type 0) (LineWrong : List R → Line → ConfFault → Type 0) → Agrees line LineSays LineWrong
     → (front rest : List Line) (said : List R) → LinesSay LineSays front said → Judges LineSays LineWrong (front ++ rest) (read_lines line said rest)
 judged {R} line LineSays LineWrong agrees front [] said before = let P : List Line → Type 0 = λ ls. LinesSay LineSays ls said in subst P (sym (append-nil front)) before
-judged {R} line LineSays LineWrong agrees front (l ∷ rest) said before = by_line (line said l) refl (λ r. judged line LineSays LineWrong agrees (front ++ l ∷ []) rest (r ∷ said))
+judged {R} line LineSays LineWrong agrees front (l ∷ rest) said before = by_line (line said l) refl (λ r. judged line LineSays LineWrong agrees (front ++ l ∷ []) rest (said ++ r ∷ []))
   where
-    by_line : (read : Read R) → line said l ≡ read → ((r : R) → LinesSay LineSays (front ++ l ∷ []) (r ∷ said) → Judges LineSays LineWrong ((front ++ l ∷ []) ++ rest) (read_lines line (r ∷ said) rest))
-        → Judges LineSays LineWrong (front ++ l ∷ rest) (at_line l.number read (λ r. read_lines line (r ∷ said) rest))
-    by_line (Ok r) is more = let P : List Line → Type 0 = λ ls. Judges LineSays LineWrong ls (read_lines line (r ∷ said) rest) in subst P (append_assoc front (l ∷ []) rest) (more r (front, l, refl, before, (agrees.says said l r).0 is))
+    by_line : (read : Read R) → line said l ≡ read → ((r : R) → LinesSay LineSays (front ++ l ∷ []) (said ++ r ∷ []) → Judges LineSays LineWrong ((front ++ l ∷ []) ++ rest) (read_lines line (said ++ r ∷ []) rest))
+        → Judges LineSays LineWrong (front ++ l ∷ rest) (at_line l.number read (λ r. read_lines line (said ++ r ∷ []) rest))
+    by_line (Ok r) is more = let P : List Line → Type 0 = λ ls. Judges LineSays LineWrong ls (read_lines line (said ++ r ∷ []) rest) in subst P (append_assoc front (l ∷ []) rest) (more r (more_said LineSays [] front said l r before ((agrees.says said l r).0 is)))
     by_line (Err fault) is more = record { front = front; line = l; rest = rest; cut = refl; said = said; front_says = before; wrong = (agrees.wrong said l fault).0 is; at = refl }
 
 all_judged : {R : Type 0} (line : LineReader R) (LineSays : List R → Line → R → Type 0) (LineWrong : List R → Line → ConfFault → Type 0) → Agrees line LineSays LineWrong
     → (lines : List Line) → Judges LineSays LineWrong lines (read_lines line [] lines)
-all_judged line LineSays LineWrong agrees lines = judged line LineSays LineWrong agrees [] lines [] refl
+all_judged line LineSays LineWrong agrees lines = judged line LineSays LineWrong agrees [] lines [] tt
 
 -- ---- whole texts
 

@@ -4,7 +4,8 @@ use Rattle.std.specs.Prelude.{position, not, ◌⊎◌}
 use Rattle.std.specs.List.{position_or_len, onto_first}
 use Rattle.std.proofs.lemmas.Bool.{ltb-true, ltb-false, le-ltb}
 use Rattle.site_text.specs.declared.refusal.TextRefusal.TheVariants.{BadAge, Overflow}
-use Rattle.site_text.specs.Ages.{is_unit, groups_of, group_seconds, plus, sum_of, age_in_seconds, capped}
+use Rattle.site_text.specs.Ages.{is_unit, groups_of, group_seconds, plus, sum_of, age_in_seconds}
+use Rattle.site_text.specs.NumberSteps.{capped}
 use Rattle.site_text.specs.Numbers.{below, number_in}
 
 abbrev CutAt : List ℕ → ℕ → Type 0

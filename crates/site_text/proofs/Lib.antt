@@ -3,7 +3,10 @@ pub mod Joins
 pub mod Digits
 pub mod Groups
 pub mod FormLaws
-pub mod OptionSteps
+pub mod TableLaws
+pub mod FormGives
+pub mod LastLaws
+pub mod OptionLoop
 pub mod OptionLaws
 pub mod FileLaws
 pub mod FileMeaning

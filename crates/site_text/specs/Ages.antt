@@ -1,6 +1,7 @@
 -- Ages: groups of 1 to 12 digits and a suffix `s`, `m`, `h`, `d`, `w` or `y`; the last group may have no suffix.
-use Rattle.std.specs.Prelude.{ℕ, ◌+◌, ◌-◌, ◌*◌, ◌^◌, List, [], ◌∷◌, length, take, Option, Some, None, Result, Bool, ◌==◌, is_some, if◌then◌else◌, option_map, slice_index, min}
+use Rattle.std.specs.Prelude.{ℕ, ◌+◌, ◌-◌, ◌*◌, ◌^◌, List, [], ◌∷◌, length, take, Option, Some, None, Result, Bool, ◌==◌, is_some, if◌then◌else◌, option_map, slice_index}
 use Rattle.std.specs.List.{onto_first}
+use Rattle.std.specs.Str.{byte}
 use Rattle.site_text.specs.declared.refusal.TextRefusal.{TextRefusal}
 use Rattle.site_text.specs.declared.refusal.TextRefusal.TheVariants.{BadAge}
 use Rattle.site_text.specs.Numbers.{number_in, below}
@@ -8,8 +9,13 @@ use Rattle.site_text.specs.Numbers.{number_in, below}
 -- the seconds of a suffix
 abbrev pub unit_of : ℕ → Option ℕ
 unit_of b =
-    if b == 115 then Some 1 else if b == 109 then Some 60 else if b == 104 then Some 3600
-    else if b == 100 then Some 86400 else if b == 119 then Some 604800 else if b == 121 then Some 31536000 else None
+    if b == byte "s" then Some 1
+    else if b == byte "m" then Some 60
+    else if b == byte "h" then Some (60 * 60)
+    else if b == byte "d" then Some (24 * 60 * 60)
+    else if b == byte "w" then Some (7 * 24 * 60 * 60)
+    else if b == byte "y" then Some (365 * 24 * 60 * 60)
+    else None
 
 abbrev pub is_unit : ℕ → Bool
 is_unit b = is_some (unit_of b)
@@ -43,8 +49,3 @@ age_in_seconds (b ∷ bs) = sum_of (groups_of (b ∷ bs))
 
 abbrev pub age_of : List ℕ → Result ℕ TextRefusal
 age_of field = below BadAge (2 ^ 40) (age_in_seconds field)
-
--- seconds, as far as they are kept while they are added up
-abbrev pub capped : Option ℕ → Option ℕ
-capped (Some n) = Some (min n (2 ^ 40))
-capped None = None

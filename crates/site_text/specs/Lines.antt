@@ -2,8 +2,20 @@
 -- the next one; what stands behind a `#` goes; each line is cut into fields at blanks and tabs; lines without fields go.
 use Rattle.std.specs.Prelude.{ℕ, suc, List, [], ◌∷◌, ◌++◌, length, filter, Bool, false, ◌==◌, ◌&&◌, ◌||◌, not, if◌then◌else◌, take, ◌+◌, ◌-◌, nat_eq, count_by}
 use Rattle.std.specs.List.{slice_split, before_first, list_any, ends_with}
+use Rattle.std.specs.Str.{byte}
 use Rattle.std.specs.Str.Lines.{lines}
 use Rattle.site_text.specs.declared.line.Line.{Line}
+
+-- ---- bytes that no text here shows
+
+abbrev pub tab : ℕ
+tab = 9
+
+abbrev pub line_feed : ℕ
+line_feed = 10
+
+abbrev pub backslash : ℕ
+backslash = 92
 
 -- ---- physical lines
 
@@ -13,14 +25,14 @@ physical_lines text = lines text
 
 -- the number of the physical line on which a byte stands
 abbrev pub line_of_byte : ℕ → List ℕ → ℕ
-line_of_byte place text = 1 + count_by (λ b. b == 10) (take place text)
+line_of_byte place text = 1 + count_by (λ b. b == line_feed) (take place text)
 
 abbrev pub is_hash : ℕ → Bool
-is_hash b = b == 35
+is_hash b = b == byte "#"
 
 -- It has no comment, and its last character is `\`.
 unfoldable pub is_continued : List ℕ → Bool
-is_continued line = not (list_any is_hash line) && ends_with nat_eq line (92 ∷ [])
+is_continued line = not (list_any is_hash line) && ends_with nat_eq line (backslash ∷ [])
 
 -- the last physical line goes on
 unfoldable pub ends_continued : List (List ℕ) → Bool
@@ -52,7 +64,7 @@ joined number (line ∷ more) = if is_continued line
 -- ---- fields
 
 abbrev pub is_blank : ℕ → Bool
-is_blank b = b == 32 || b == 9
+is_blank b = b == byte " " || b == tab
 
 abbrev pub is_empty : {A : Type 0} → List A → Bool
 is_empty items = length items == 0

@@ -1,8 +1,7 @@
 -- Numbers of decimal digits. Leading zeros are allowed.
-use Rattle.std.specs.Prelude.{ℕ, ◌+◌, ◌*◌, ◌^◌, List, length, Option, Some, None, Result, Ok, Err, Bool, ◌&&◌, nat_lt, nat_le, if◌then◌else◌, option_and_then}
-use Rattle.std.specs.Char.{is_ascii_digit, digit_value}
+use Rattle.std.specs.Prelude.{ℕ, List, length, Option, Some, None, Result, Ok, Err, Bool, ◌&&◌, nat_lt, nat_le, if◌then◌else◌, option_and_then}
 use Rattle.std.specs.Str.{all_ascii_digits}
-use Rattle.std.specs.Str.Parse.{digits_value, digits_value_after}
+use Rattle.std.specs.Str.Parse.{digits_value}
 use Rattle.site_text.specs.declared.refusal.TextRefusal.{TextRefusal}
 use Rattle.site_text.specs.declared.refusal.TextRefusal.TheVariants.{Overflow}
 
@@ -26,13 +25,3 @@ number_within most low high field = option_and_then (within low high) (number_in
 abbrev pub below : TextRefusal → ℕ → Option ℕ → Result ℕ TextRefusal
 below bad limit None = Err bad
 below bad limit (Some n) = if nat_lt n limit then Ok n else Err Overflow
-
--- ---- as far as the code's numbers reach
-
--- the number that digits write behind those of n, where it is below 2^64
-unfoldable pub fitting_from : ℕ → List ℕ → Option ℕ
-fitting_from n digits = if all_ascii_digits digits && nat_lt (digits_value_after 10 n digits) (2 ^ 64)
-    then Some (digits_value_after 10 n digits) else None
-
-abbrev pub with_digit : ℕ → ℕ → Option ℕ
-with_digit n b = if is_ascii_digit b && nat_lt (n * 10 + digit_value b) (2 ^ 64) then Some (n * 10 + digit_value b) else None

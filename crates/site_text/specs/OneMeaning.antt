@@ -3,7 +3,8 @@ use Rattle.std.specs.Prelude.{◌≡◌, ◌↔◌, ℕ, List, Option, Ok, Err, 
 use Rattle.site_text.specs.declared.line.Line.{Line}
 use Rattle.site_text.specs.declared.fault.ConfFault.{ConfFault}
 use Rattle.site_text.specs.declared.fault.ConfRefusal.{ConfRefusal}
-use Rattle.site_text.specs.Files.{LineReader, FileSays, FileWrong, file_reading}
+use Rattle.site_text.specs.FileRules.{FileSays, FileWrong}
+use Rattle.site_text.specs.FileSteps.{LineReader, file_reading}
 
 pub record SaysOneThing {R : Type 0} (line_of : LineReader R) (LineSays : List R → Line → R → Type 0) (LineWrong : List R → Line → ConfFault → Type 0) (open_section : List R → Option ℕ) (text : List ℕ) : Type 0 where
   pub something : ((said : List R) × FileSays LineSays open_section text said) ⊎ ((refusal : ConfRefusal) × FileWrong LineSays LineWrong open_section text refusal)

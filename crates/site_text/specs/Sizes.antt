@@ -1,5 +1,6 @@
 -- Sizes: 1 to 15 digits and at most one suffix `k`, `M`, `G` or `T`, of either case.
 use Rattle.std.specs.Prelude.{ℕ, ◌-◌, ◌*◌, ◌^◌, List, length, take, Option, Some, None, Result, ◌==◌, ◌||◌, if◌then◌else◌, option_map, slice_index}
+use Rattle.std.specs.Str.{byte}
 use Rattle.site_text.specs.declared.refusal.TextRefusal.{TextRefusal}
 use Rattle.site_text.specs.declared.refusal.TextRefusal.TheVariants.{BadSize}
 use Rattle.site_text.specs.Numbers.{number_in, below}
@@ -7,8 +8,11 @@ use Rattle.site_text.specs.Numbers.{number_in, below}
 -- what a suffix multiplies by
 abbrev pub scale_of : ℕ → Option ℕ
 scale_of b =
-    if b == 107 || b == 75 then Some 1024 else if b == 109 || b == 77 then Some (1024 ^ 2)
-    else if b == 103 || b == 71 then Some (1024 ^ 3) else if b == 116 || b == 84 then Some (1024 ^ 4) else None
+    if b == byte "k" || b == byte "K" then Some (2 ^ 10)
+    else if b == byte "m" || b == byte "M" then Some (2 ^ 20)
+    else if b == byte "g" || b == byte "G" then Some (2 ^ 30)
+    else if b == byte "t" || b == byte "T" then Some (2 ^ 40)
+    else None
 
 -- the bytes that a size says
 unfoldable pub size_in_bytes : List ℕ → Option ℕ

@@ -1,10 +1,11 @@
 -- Value lines: `NAME = VALUE..`, with or without blanks at the `=`.
 use Rattle.std.specs.Prelude.{ℕ, List, [], ◌∷◌, Option, Some, None, Bool, ◌==◌, if◌then◌else◌, slice_index, drop}
 use Rattle.std.specs.List.{list_any, before_first, after_first}
+use Rattle.std.specs.Str.{byte}
 use Rattle.site_text.specs.Fields.{Field, put_field}
 
 abbrev pub is_equals : ℕ → Bool
-is_equals b = b == 61
+is_equals b = b == byte "="
 
 -- what stands before the first `=` of a text and behind it, if there is one
 abbrev pub around_equals : List ℕ → Option (Field × Field)

@@ -2,6 +2,7 @@
 use Rattle.std.specs.Prelude.{ℕ, length, Result, Ok, Err, Bool, ◌==◌, ◌&&◌, ◌||◌, nat_le, ◌%◌, if◌then◌else◌}
 use Rattle.std.specs.List.{list_all}
 use Rattle.std.specs.Int.{is_in_range}
+use Rattle.std.specs.Str.{byte}
 use Rattle.site_text.specs.declared.fault.ConfFault.TheVariants.{BadValue, OutOfRange}
 use Rattle.site_text.specs.declared.refusal.TextRefusal.{TextRefusal}
 use Rattle.site_text.specs.Fields.{Field, Read, ◌>>=◌, wanted}
@@ -17,6 +18,10 @@ in_range low high n = if nat_le low n && nat_le n high then Ok n else Err OutOfR
 abbrev pub bad_value : Result ℕ TextRefusal → Read ℕ
 bad_value (Ok n) = Ok n
 bad_value (Err refusal) = Err BadValue
+
+-- any field, as it stands
+abbrev pub any_value : Field → Read Field
+any_value field = Ok field
 
 -- a number of 1 to 9 digits, in a range
 unfoldable pub number_value : ℕ → ℕ → Field → Read ℕ
@@ -40,22 +45,29 @@ weight_value field = bad_value (weight_of field)
 -- ---- names
 
 abbrev pub is_letter : ℕ → Bool
-is_letter b = is_in_range 65 90 b || is_in_range 97 122 b
+is_letter b = is_in_range (byte "A") (byte "Z") b || is_in_range (byte "a") (byte "z") b
 
 abbrev pub is_digit : ℕ → Bool
-is_digit b = is_in_range 48 57 b
+is_digit b = is_in_range (byte "0") (byte "9") b
 
 -- letters, digits, `_`, `-` and `.`
 abbrev pub is_name_byte : ℕ → Bool
-is_name_byte b = is_letter b || is_digit b || (b == 95) || (b == 45) || (b == 46)
+is_name_byte b = is_letter b || is_digit b || (b == byte "_") || (b == byte "-") || (b == byte ".")
 
 -- a name of 1 to `most` of these
 abbrev pub is_name : ℕ → Field → Bool
 is_name most field = has_length most field && list_all is_name_byte field
 
 abbrev pub is_media_byte : ℕ → Bool
-is_media_byte b = is_in_range 97 122 b || is_digit b
+is_media_byte b = is_in_range (byte "a") (byte "z") b || is_digit b
 
 -- a media type: two small letters or digits
 abbrev pub is_media : Field → Bool
 is_media field = (length field == 2) && list_all is_media_byte field
+
+-- a name of at most so many bytes
+abbrev pub name_value : ℕ → Field → Read Field
+name_value most field = if is_name most field then Ok field else Err BadValue
+
+abbrev pub media_value : Field → Read Field
+media_value field = if is_media field then Ok field else Err BadValue

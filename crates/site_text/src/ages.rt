@@ -1,7 +1,8 @@
 //! Ages in seconds.
 
 ghost use Rattle.std.specs.Prelude.{◌≡◌, ℕ, ◌+◌, ◌*◌, ◌^◌, ◌<◌, ◌≤◌, min, suc, take, drop, length, position, IfSome, IfOk, None, Some};
-ghost use Rattle.site_text.specs.Ages.{unit_of, is_unit, groups_of, group_seconds, plus, sum_of, capped, age_of};
+ghost use Rattle.site_text.specs.Ages.{unit_of, is_unit, groups_of, group_seconds, plus, sum_of, age_of};
+ghost use Rattle.site_text.specs.NumberSteps.{capped};
 
 use crate::numbers::read_number;
 use crate::refusal::TextRefusal;

@@ -3,8 +3,8 @@
 ghost use Rattle.std.specs.Prelude.{◌≡◌, ℕ, List as Seq, [], ◌∷◌, MatchOption};
 ghost use Rattle.site_text.specs.Fields.{Reads, put_field, next_field, no_field};
 
-use crate::bytes::Bytes;
 use crate::fault::ConfFault;
+use base::Bytes;
 use std::marker::Model;
 
 /// The fields of a line that are not read yet, which contracts see as a list.

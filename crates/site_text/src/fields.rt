@@ -3,7 +3,7 @@
 ghost use Rattle.std.specs.Prelude.{◌≡◌, ◌++◌, OnOk, IfOk, position, filter, not, [], ◌∷◌, IfSome, ◌<◌, ◌+◌, take, drop, length};
 ghost use Rattle.site_text.specs.Lines.{fields_of, is_blank, is_empty};
 
-use crate::bytes::{Bytes, List};
+use base::{Bytes, List};
 use std::alloc::{AllocError, Global};
 
 fn first_blank(text: &[u8]) -> Option<usize>

@@ -1,22 +1,23 @@
 //! Whole command files, of any kind.
 
-ghost use Rattle.std.specs.Prelude.{◌≡◌, ◌≤◌, ◌<◌, ◌+◌, ◌↔◌, ℕ, List as Seq, [], ◌∷◌, length, count_by, ◌==◌, ◌⊎◌, Option, Ok, Err, IfOk, OnOk};
+ghost use Rattle.std.specs.Prelude.{◌≡◌, ◌≤◌, ◌<◌, ◌+◌, ◌↔◌, ℕ, List as Seq, [], ◌∷◌, ◌++◌, length, count_by, ◌==◌, ◌⊎◌, Option, Ok, Err, IfOk, OnOk};
 ghost use Rattle.site_text.specs.Fields.{Gives};
-ghost use Rattle.site_text.specs.Files.{LineReader, FileAnswers, FileLinesAnswer, LinesAnswer, FileSays, FileWrong, file_reading};
-ghost use Rattle.site_text.specs.Lines.{line_of_byte};
+ghost use Rattle.site_text.specs.FileRules.{FileAnswers, FileLinesAnswer, LinesAnswer, FileSays, FileWrong};
+ghost use Rattle.site_text.specs.FileSteps.{LineReader, file_reading};
+ghost use Rattle.site_text.specs.Lines.{line_feed, line_of_byte};
 ghost use Rattle.site_text.specs.declared.line.Line.{Line};
 ghost use Rattle.site_text.specs.declared.fault.ConfFault.{ConfFault};
 ghost use Rattle.site_text.specs.declared.fault.ConfRefusal.{ConfRefusal};
 
-use crate::bytes::List;
 use crate::fault::{ConfError, ConfFault, ConfRefusal, LineError};
 use crate::line::Line;
 use crate::refusal::TextRefusal;
 use crate::text_lines::lines;
+use base::List;
 use std::alloc::{AllocError, Global};
 
 /// A kind of command file, with what it stands on. Its lines are read one after the other, each by what the lines before it
-/// said. In each list of readings here the latest stands first.
+/// said. Lists of readings stand in the order of the file.
 pub trait CommandFile {
     /// What a line says.
     type Reading: Drop;
@@ -53,7 +54,7 @@ pub trait CommandFile {
 
     /// A line said this too.
     fn add(&self, known: &mut Self::Known, reading: Self::Reading) -> Result<(), AllocError>
-        ensures { OnOk result ((said : Seq Self.Reading) → tells self.now said known.old → tells self.now (reading ∷ said) known.new) };
+        ensures { OnOk result ((said : Seq Self.Reading) → tells self.now said known.old → tells self.now (said ++ reading ∷ []) known.new) };
 
     /// The line on which the section began that is open, if one is.
     fn open_section(&self, known: &Self::Known) -> Option<u32>
@@ -68,7 +69,7 @@ pub trait CommandFile {
 }
 
 fn line_feeds(text: &[u8]) -> usize
-    ensures { result ≡ count_by (λ b. b == 10) text.now }
+    ensures { result ≡ count_by (λ b. b == line_feed) text.now }
 {
     text.iter().filter(|b| **b == b'\n').count()
 }

@@ -2,7 +2,6 @@
 #![tactic(auto)]
 
 mod ages;
-mod bytes;
 mod cursor;
 mod fault;
 mod fields;
@@ -20,7 +19,6 @@ mod weights;
 mod words;
 
 pub use ages::read_age;
-pub use bytes::{Bytes, List};
 pub use cursor::Fields;
 pub use fault::{ConfError, ConfFault, ConfRefusal, LineError};
 pub use fields::{cut_at, cut_fields};
@@ -28,7 +26,7 @@ pub use files::{CommandFile, each_text_says_one_thing, read_file};
 pub use forms::{directives_read_what_is_said, forms_read_what_is_said, read_ignored};
 pub use line::Line;
 pub use numbers::{read_number, read_number_within};
-pub use options::{OptionTable, options_read_what_is_said, read_options};
+pub use options::{OptionTable, TableOption, options_read_what_is_said, read_options};
 pub use refusal::TextRefusal;
 pub use sizes::read_size;
 pub use text_lines::lines;

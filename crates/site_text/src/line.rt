@@ -1,4 +1,4 @@
-use crate::bytes::{Bytes, List};
+use base::{Bytes, List};
 
 /// A line of a command file that has fields.
 #[derive(Drop)]

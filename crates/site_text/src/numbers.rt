@@ -1,7 +1,8 @@
 //! Numbers of decimal digits.
 
 ghost use Rattle.std.specs.Prelude.{◌≡◌, ◌≤◌, ◌<◌, ◌^◌, length, IfSome};
-ghost use Rattle.site_text.specs.Numbers.{number_in, number_within, has_length, within, fitting_from, with_digit};
+ghost use Rattle.site_text.specs.Numbers.{number_in, number_within, has_length, within};
+ghost use Rattle.site_text.specs.NumberSteps.{fitting_from, with_digit};
 
 /// The number with one more digit, where that is a digit and the number fits.
 fn with_digit(number: u64, byte: u8) -> Option<u64>

@@ -1,47 +1,75 @@
 //! The options of a line, by any table of them.
 
 ghost use Rattle.std.specs.Prelude.{◌≡◌, ◌↔◌, ℕ, List as Seq, Ok, Err};
-ghost use Rattle.site_text.specs.Fields.{Field, Gives, GivesFront, Leaves};
-ghost use Rattle.site_text.specs.Options.{Options, OptionsSay, OptionsWrong, with_given, given_at, options_of};
+ghost use Rattle.site_text.specs.Fields.{Field, Read, Gives, GivesFront, Leaves};
+ghost use Rattle.site_text.specs.Options.{Options};
+ghost use Rattle.site_text.specs.OptionRules.{OptionsSay, OptionsWrong};
+ghost use Rattle.site_text.specs.OptionSteps.{with_given, given_by, given_at, form_found, options_of};
 ghost use Rattle.site_text.specs.declared.fault.ConfFault.{ConfFault};
 
-use crate::bytes::List;
 use crate::cursor::Fields;
 use crate::fault::{ConfFault, LineError};
+use base::List;
 use std::alloc::Global;
+
+/// An option that stands in a table.
+#[derive(Drop)]
+pub enum TableOption<G, W> {
+    /// It stands alone and gives this.
+    Alone(G),
+    /// It takes the next field as its value.
+    WithValue(W),
+}
 
 /// A table of options. What an option gives may depend on the table's own value.
 pub trait OptionTable {
-    /// An option of the table.
+    /// An option that takes a value.
     type Word: Copy;
 
     /// What an option gives, with its value if it takes one.
     type Given: Drop;
 
-    ghost options: { Self → Options Self.Word Self.Given };
+    ghost options: { Self → Options Self.Given };
+
+    // What an option gives with a value.
+    ghost value_of: { Self → Self.Word → Field → Read Self.Given };
 
     /// The option that a field is, or what is wrong with the field.
-    fn named(&self, field: &[u8]) -> Result<Self::Word, ConfFault>
-        ensures { result ≡ (options self.now).named field.now };
-
-    /// The next field is the option's value.
-    fn takes_value(&self, word: Self::Word) -> bool
-        ensures { result ≡ (options self.now).takes_value word };
+    fn option(
+        &self,
+        alloc: Global,
+        field: &[u8],
+    ) -> Result<TableOption<Self::Given, Self::Word>, LineError>
+        ensures { Gives (form_found (value_of self.now)) result ((options self.now).option field.now) };
 
     /// What the option gives with this value.
     fn value(&self, alloc: Global, word: Self::Word, field: &[u8]) -> Result<Self::Given, LineError>
-        ensures { Gives (λ given. given) result ((options self.now).value word field.now) };
-
-    /// What the option gives alone.
-    fn alone(&self, alloc: Global, word: Self::Word) -> Self::Given
-        ensures { result ≡ (options self.now).alone word };
+        ensures { Gives (λ given. given) result (value_of self.now word field.now) };
 
     /// It excludes one of those that were given before.
     fn excludes(&self, before: &[Self::Given], given: &Self::Given) -> bool
         ensures { result ≡ (options self.now).excludes before.now given.now };
 }
 
-#[tactic(auto, unfolding(crate::specs::Options::given_at))]
+#[tactic(auto, unfolding(crate::specs::OptionSteps::given_by))]
+fn given_by<T: OptionTable>(
+    alloc: Global,
+    table: &T,
+    option: TableOption<T::Given, T::Word>,
+    fields: &mut Fields,
+) -> Result<T::Given, LineError>
+    ensures { GivesFront (λ given. given) result fields.new (given_by (form_found (T.value_of table.now) option) fields.old) }
+{
+    match option {
+        TableOption::Alone(given) => Ok(given),
+        TableOption::WithValue(word) => match fields.next() {
+            Ok(value) => table.value(alloc, word, value),
+            Err(fault) => Err(LineError::Fault(fault)),
+        },
+    }
+}
+
+#[tactic(auto, unfolding(crate::specs::OptionSteps::given_at))]
 fn given_at<T: OptionTable>(
     alloc: Global,
     table: &T,
@@ -50,17 +78,9 @@ fn given_at<T: OptionTable>(
 ) -> Result<T::Given, LineError>
     ensures { GivesFront (λ given. given) result fields.new (given_at (T.options table.now) field.now fields.old) }
 {
-    let word = match table.named(field) {
-        Ok(word) => word,
-        Err(fault) => return Err(LineError::Fault(fault)),
-    };
-    if table.takes_value(word) {
-        match fields.next() {
-            Ok(value) => table.value(alloc, word, value),
-            Err(fault) => Err(LineError::Fault(fault)),
-        }
-    } else {
-        Ok(table.alone(alloc, word))
+    match table.option(alloc, field) {
+        Ok(option) => given_by::<T>(alloc, table, option, fields),
+        Err(error) => Err(error),
     }
 }
 
@@ -104,9 +124,9 @@ pub fn read_options<T: OptionTable>(
 }
 
 /// Reading fields from the left as options gives what they say, and else the fault of the first wrong field.
-pub fn options_read_what_is_said<O, V>()
-    ensures said { (options : Options O V) → (before : Seq V) → (fields : Seq Field) → (given : Seq V) →
+pub fn options_read_what_is_said<V>()
+    ensures said { (options : Options V) → (before : Seq V) → (fields : Seq Field) → (given : Seq V) →
         (options_of options before fields ≡ Ok given) ↔ OptionsSay options before fields given }
-    ensures wrong { (options : Options O V) → (before : Seq V) → (fields : Seq Field) → (fault : ConfFault) →
+    ensures wrong { (options : Options V) → (before : Seq V) → (fields : Seq Field) → (fault : ConfFault) →
         (options_of options before fields ≡ Err fault) ↔ OptionsWrong options before fields fault }
 {}

@@ -6,10 +6,10 @@ ghost use Rattle.std.specs.Str.Lines.{strip_carriage_return};
 ghost use Rattle.site_text.specs.Lines.{physical_lines, is_continued, is_hash, with_fields};
 ghost use Rattle.site_text.specs.Texts.{AreLines, AreJoinedLines};
 
-use crate::bytes::{Bytes, List};
 use crate::fields::{cut_at, cut_fields};
 use crate::line::Line;
 use crate::refusal::TextRefusal;
+use base::{Bytes, List};
 use std::alloc::{AllocError, Global};
 
 fn first_byte(text: &[u8], byte: u8) -> Option<usize>

@@ -4,9 +4,9 @@ ghost use Rattle.std.specs.Prelude.{◌≡◌, ◌<◌, length, IfSome, position
 ghost use Rattle.std.specs.Option.{option_copied, option_map};
 ghost use Rattle.site_text.specs.ValueLines.{is_equals, around_equals, value_line, value_line_at_second};
 
-use crate::bytes::Bytes;
 use crate::cursor::Fields;
 use crate::fields::cut_at;
+use base::Bytes;
 
 fn first_equals(text: &[u8]) -> Option<usize>
     ensures place { result ≡ position is_equals text.now }

@@ -1,8 +1,9 @@
 //! What no clause says: that the calls succeed, and vectors made by hand from the format.
 
+use base::{Bytes, List};
 use site_text::{
-    Bytes, CommandFile, ConfError, ConfFault, ConfRefusal, Fields, Line, LineError, List,
-    OptionTable, TextRefusal, cut_fields, lines, number_value, option_named, read_age, read_file,
+    CommandFile, ConfError, ConfFault, ConfRefusal, Fields, Line, LineError, OptionTable,
+    TableOption, TextRefusal, cut_fields, lines, no_option, number_value, read_age, read_file,
     read_options, read_size, read_weight,
 };
 use std::alloc::{AllocError, Global};
@@ -141,40 +142,33 @@ fn reads_fields(rt: HostRuntime) {
 #[derive(Drop)]
 struct Flags;
 
-const FLAGS: [(&[u8], u32); 2] = [(b"-n", 1), (b"-x", 0)];
-
 impl OptionTable for Flags {
     ghost use Rattle.std.specs.Prelude.{codes, ◌∷◌, [], ◌==◌, ◌&&◌};
     ghost use Rattle.std.specs.List.{list_any};
     ghost use Rattle.site_text.specs.Values.{number_value};
-    ghost use Rattle.site_text.specs.Words.{option_named};
+    ghost use Rattle.site_text.specs.Options.{Alone, WithValue, listed};
 
-    type Word = u32;
+    type Word = ();
 
     type Given = u32;
 
     ghost options = { λ table. record {
-      named = option_named ((codes "-n", 1) ∷ (codes "-x", 0) ∷ []);
-      takes_value = λ word. word == 1;
-      value = λ word field. number_value 0 9 field;
-      alone = λ word. 0;
+      option = listed ((codes "-n", WithValue (number_value 0 9)) ∷ (codes "-x", Alone 0) ∷ []);
       excludes = λ before given. (given == 0) && list_any (λ b. b == 0) before;
     } };
 
-    fn named(&self, field: &[u8]) -> Result<u32, ConfFault> {
-        option_named(&FLAGS, field)
+    ghost value_of = { λ table word. number_value 0 9 };
+
+    fn option(&self, _alloc: Global, field: &[u8]) -> Result<TableOption<u32, ()>, LineError> {
+        match field {
+            b"-n" => Ok(TableOption::WithValue(())),
+            b"-x" => Ok(TableOption::Alone(0)),
+            _ => Err(LineError::Fault(no_option(field))),
+        }
     }
 
-    fn takes_value(&self, word: u32) -> bool {
-        word == 1
-    }
-
-    fn value(&self, _alloc: Global, _word: u32, field: &[u8]) -> Result<u32, LineError> {
+    fn value(&self, _alloc: Global, _word: (), field: &[u8]) -> Result<u32, LineError> {
         Ok(number_value(0, 9, field)?)
-    }
-
-    fn alone(&self, _alloc: Global, _word: u32) -> u32 {
-        0
     }
 
     fn excludes(&self, before: &[u32], given: &u32) -> bool {
@@ -233,9 +227,10 @@ fn reads_options(rt: HostRuntime) -> Result<(), Fail> {
 struct Latest;
 
 impl CommandFile for Latest {
-    ghost use Rattle.std.specs.Prelude.{◌≡◌, Ok, Err, Some, None, ◌==◌, if◌then◌else◌, option_and_then, slice_get};
+    ghost use Rattle.std.specs.Prelude.{◌≡◌, Ok, Err, Some, None, ◌==◌, if◌then◌else◌, option_and_then};
     ghost use Rattle.site_text.specs.Fields.{◌>>=◌, next_field};
     ghost use Rattle.site_text.specs.Values.{number_value};
+    ghost use Rattle.site_text.specs.LastValues.{last_of};
 
     type Reading = u32;
 
@@ -247,9 +242,9 @@ impl CommandFile for Latest {
 
     ghost line_wrong = { λ file before line fault. (next_field line.fields >>= λ next. number_value 0 9 next.0) ≡ Err fault };
 
-    ghost open_section = { λ file said. option_and_then (λ n. if n == 7 then Some 1 else None) (slice_get said 0) };
+    ghost open_section = { λ file said. option_and_then (λ n. if n == 7 then Some 1 else None) (last_of (λ n. Some n) said) };
 
-    ghost tells = { λ file said known. known ≡ slice_get said 0 };
+    ghost tells = { λ file said known. known ≡ last_of (λ n. Some n) said };
 
     fn start(&self, _alloc: Global) -> Result<Option<u32>, AllocError> {
         Ok(None)
@@ -266,6 +261,7 @@ impl CommandFile for Latest {
         Ok(number_value(0, 9, field)?)
     }
 
+    #[tactic(auto, using(site_text::proofs::LastLaws::last_of_more))]
     fn add(&self, known: &mut Option<u32>, reading: u32) -> Result<(), AllocError> {
         *known = Some(reading);
         Ok(())

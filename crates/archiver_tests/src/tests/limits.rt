@@ -1,7 +1,8 @@
 //! How many lines, sets and expressions there may be, and how long a path.
 
-use super::{Refusal, plain_refusal, refusal};
-use site_text::{Bytes, ConfFault};
+use super::{Refusal, refusal};
+use base::Bytes;
+use site_text::ConfFault;
 use std::alloc::{AllocError, Global};
 use std::test::Fail;
 
@@ -188,7 +189,6 @@ fn counts_lines(rt: HostRuntime) -> Result<(), Fail> {
     for (front, part, times, end, want) in LINES {
         let text = repeated(rt.alloc(), front, part, times, end)?;
         assert_eq!(rt; refusal(rt.alloc(), text.as_slice())?, want);
-        assert_eq!(rt; plain_refusal(rt.alloc(), text.as_slice())?, want);
     }
     Ok(())
 }
@@ -198,7 +198,6 @@ fn counts_expressions(rt: HostRuntime) -> Result<(), Fail> {
     for (front, part, times, end, want) in EXPRESSIONS {
         let text = repeated(rt.alloc(), front, part, times, end)?;
         assert_eq!(rt; refusal(rt.alloc(), text.as_slice())?, want);
-        assert_eq!(rt; plain_refusal(rt.alloc(), text.as_slice())?, want);
     }
     Ok(())
 }
@@ -208,7 +207,6 @@ fn tells_the_first_fault_around_the_room(rt: HostRuntime) -> Result<(), Fail> {
     for (front, part, times, end, want) in AROUND_THE_ROOM {
         let text = repeated(rt.alloc(), front, part, times, end)?;
         assert_eq!(rt; refusal(rt.alloc(), text.as_slice())?, want);
-        assert_eq!(rt; plain_refusal(rt.alloc(), text.as_slice())?, want);
     }
     Ok(())
 }
@@ -218,7 +216,6 @@ fn measures_paths(rt: HostRuntime) -> Result<(), Fail> {
     for (front, part, times, end, want) in PATHS {
         let text = repeated(rt.alloc(), front, part, times, end)?;
         assert_eq!(rt; refusal(rt.alloc(), text.as_slice())?, want);
-        assert_eq!(rt; plain_refusal(rt.alloc(), text.as_slice())?, want);
     }
     Ok(())
 }
@@ -254,7 +251,6 @@ fn counts_sets(rt: HostRuntime) -> Result<(), Fail> {
     for (parts, end, want) in SETS {
         let text = with_parts(rt.alloc(), parts, end)?;
         assert_eq!(rt; refusal(rt.alloc(), text.as_slice())?, want);
-        assert_eq!(rt; plain_refusal(rt.alloc(), text.as_slice())?, want);
     }
     Ok(())
 }

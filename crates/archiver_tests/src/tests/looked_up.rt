@@ -1,10 +1,8 @@
 //! What a configuration answers for a copy of a set.
 
-use super::shown::both_shown;
-use archiver_cmd::{
-    ArchiverConf, Owner, Params, Reserve, Sort, SortKey, plain_archiver, read_archiver,
-};
-use site_text::{Bytes, List};
+use super::shown::shown_in;
+use archiver_cmd::{ArchiverConf, Owner, Reserve, Sort, SortKey, read_archiver};
+use base::Bytes;
 use std::alloc::{AllocError, Global};
 use std::test::Fail;
 
@@ -26,26 +24,26 @@ const LEVELS: &[u8] = b"a .\nb x\nparams\n\
     a.1 -rsort size\na.2 -recycle_ignore -reserve group -recycle_hwm 100 -archmax 4M\na.2 -archmax 3M\nendparams\n\
     vsnpools\np lj C\nendvsnpools\nvsns\na.1 li X\nallsets.2 li Z\na.2 li -pool p\nendvsns\n";
 
-/// What the reader and then the plain one read.
-fn confs(alloc: Global, text: &[u8]) -> Result<List<ArchiverConf>, Fail> {
-    let mut both = List::new(alloc);
-    if text.len() <= 65536 {
-        both.push(read_archiver(alloc, text, b"film1")?)?;
-        both.push(plain_archiver(alloc, text, b"film1")?)?;
+const TEXT_SAYS: &[u8] =
+    b"|a 4 no_archive Site tmp Default Default|a 5 rushes Site rushes min=1024 Default Default\
+    |a 8 finals Site finals Default Default|a 12 sound Site sound name=\\.wav$ Default Default\
+    |a 15 small Site . max=65536 Default Default\
+    |s no_archive|s rushes 1@600n 2@3600n|s finals 1@0 2@1800 3@86400|s sound 1@240+7776000 2@3600|s small 1@240|s film1 1@240\
+    |p allsets Sort(Sort { key: Path, reverse: false }) Startage(120) Reserve(Set)|p allsets.1 Sort(Sort { key: Age, reverse: false })\
+    |p rushes.1 Archmax(1048576) Startcount(2) Join(Path)\
+    |p rushes.2 Reserve(Owner(User)) Sort(Sort { key: Size, reverse: true }) Reserve(Fs)|p finals.1 Startage(0)\
+    |v rushes.1 li:^DAY@25 li:^Z@34|v finals.1 li:^FIN@26|v allsets.2 li:X@32|v allsets lt:Y@33|V";
+
+fn conf_of(alloc: Global, text: &[u8]) -> Result<ArchiverConf, Fail> {
+    if text.len() > 65536 {
+        return Err("a long text".into());
     }
-    Ok(both)
+    Ok(read_archiver(alloc, text, b"film1")?)
 }
 
 #[test]
-fn both_read_the_same(rt: HostRuntime) -> Result<(), Fail> {
-    let both = both_shown(rt.alloc(), TEXT, b"film1")?;
-    assert_eq!(rt; both.len(), 2);
-    if both.len() == 2 {
-        assert_eq!(rt;
-            both.as_slice()[0].as_slice(),
-            both.as_slice()[1].as_slice()
-        );
-    }
+fn all_is_read(rt: HostRuntime) -> Result<(), Fail> {
+    assert_eq!(rt; shown_in(rt.alloc(), TEXT, b"film1")?.as_slice(), TEXT_SAYS);
     Ok(())
 }
 
@@ -59,25 +57,15 @@ fn sets_are_in_order(rt: HostRuntime) -> Result<(), Fail> {
         (b"small", 1),
         (b"film1", 1),
     ];
-    for conf in confs(rt.alloc(), TEXT)?.as_slice() {
-        assert_eq!(rt; conf.sets().len(), 6);
-        assert_eq!(rt; conf.assignments().len(), 5);
-        assert!(rt; conf.has_vsns());
-        for (set, (name, copies)) in conf.sets().iter().zip(want) {
-            assert_eq!(rt; set.name.as_slice(), name);
-            assert_eq!(rt; set.copies.len(), copies);
-        }
+    let conf = conf_of(rt.alloc(), TEXT)?;
+    assert_eq!(rt; conf.sets().len(), 6);
+    assert_eq!(rt; conf.assignments().len(), 5);
+    assert!(rt; conf.has_vsns());
+    for (set, (name, copies)) in conf.sets().iter().zip(want) {
+        assert_eq!(rt; set.name.as_slice(), name);
+        assert_eq!(rt; set.copies.len(), copies);
     }
     Ok(())
-}
-
-/// The options of a copy of a set that is there.
-fn params_of(conf: &ArchiverConf, set: u32, copy: u8) -> Option<Params> {
-    if (set as usize) < conf.sets().len() {
-        Some(conf.params(set, copy))
-    } else {
-        None
-    }
 }
 
 const fn sort_by(key: SortKey, reverse: bool) -> Option<Sort> {
@@ -123,91 +111,83 @@ const BY_OTHER_COPY: &str =
     recycle_dataquantity: Some(2147483648), recycle_ignore: true }";
 
 /// The options for copies of sets.
-const LEVELS_SAY: [(u32, u8, &str); 6] = [
-    (0, 1, BY_SET),
-    (0, 2, BY_OTHER_COPY),
-    (0, 3, BY_ALL),
-    (1, 1, BY_COPY),
-    (1, 2, BY_ALL),
-    (2, 1, BY_COPY),
+const LEVELS_SAY: [(&[u8], u8, &str); 6] = [
+    (b"a", 1, BY_SET),
+    (b"a", 2, BY_OTHER_COPY),
+    (b"a", 3, BY_ALL),
+    (b"b", 1, BY_COPY),
+    (b"b", 2, BY_ALL),
+    (b"film1", 1, BY_COPY),
 ];
 
 /// The options of a copy as a text. A text is compared, since a comparison of all fields takes long to prove.
 fn shown_params(
     alloc: Global,
     conf: &ArchiverConf,
-    set: u32,
+    set: &[u8],
     copy: u8,
 ) -> Result<String, AllocError> {
-    match params_of(conf, set, copy) {
-        Some(params) => format!(in alloc; "{params:?}"),
-        None => String::from_str(alloc, "no set"),
-    }
+    let params = conf.params(set, copy);
+    format!(in alloc; "{params:?}")
 }
 
 #[test]
 fn options_are_looked_up(rt: HostRuntime) -> Result<(), Fail> {
-    for conf in confs(rt.alloc(), TEXT)?.as_slice() {
-        let params = params_of(conf, 1, 1).ok_or("no set")?;
-        assert_eq!(rt; params.archmax, Some(1_048_576));
-        assert_eq!(rt; params.startcount, Some(2));
-        assert_eq!(rt; params.startage, Some(120));
-        assert_eq!(rt; params.sort, sort_by(SortKey::Age, false));
-        let params = params_of(conf, 1, 2).ok_or("no set")?;
-        assert_eq!(rt; params.sort, sort_by(SortKey::Size, true));
-        let reserve = Reserve {
-            set: false,
-            owner: Some(Owner::User),
-            fs: true,
-        };
-        assert_eq!(rt; params.reserve, Some(reserve));
-        let params = params_of(conf, 2, 1).ok_or("no set")?;
-        assert_eq!(rt; params.startage, Some(0));
-        assert_eq!(rt; params.reserve, SET_ALONE);
-        assert!(rt; !params.fillvsns && !params.recycle_ignore);
-    }
+    let conf = conf_of(rt.alloc(), TEXT)?;
+    let params = conf.params(b"rushes", 1);
+    assert_eq!(rt; params.archmax, Some(1_048_576));
+    assert_eq!(rt; params.startcount, Some(2));
+    assert_eq!(rt; params.startage, Some(120));
+    assert_eq!(rt; params.sort, sort_by(SortKey::Age, false));
+    let params = conf.params(b"rushes", 2);
+    assert_eq!(rt; params.sort, sort_by(SortKey::Size, true));
+    let reserve = Reserve {
+        set: false,
+        owner: Some(Owner::User),
+        fs: true,
+    };
+    assert_eq!(rt; params.reserve, Some(reserve));
+    let params = conf.params(b"finals", 1);
+    assert_eq!(rt; params.startage, Some(0));
+    assert_eq!(rt; params.reserve, SET_ALONE);
+    assert!(rt; !params.fillvsns && !params.recycle_ignore);
+    let conf = conf_of(rt.alloc(), LEVELS)?;
     for (set, copy, want) in LEVELS_SAY {
-        for conf in confs(rt.alloc(), LEVELS)?.as_slice() {
-            assert_eq!(rt; shown_params(rt.alloc(), conf, set, copy)?.as_str(), want);
-        }
+        assert_eq!(rt; shown_params(rt.alloc(), &conf, set, copy)?.as_str(), want);
     }
     Ok(())
 }
 
 /// The texts and lines of the expressions for a copy of a set, each behind a `|`.
-fn exprs_of(alloc: Global, conf: &ArchiverConf, set: u32, copy: u8) -> Result<Bytes, AllocError> {
+fn exprs_of(alloc: Global, conf: &ArchiverConf, set: &[u8], copy: u8) -> Result<Bytes, AllocError> {
     let mut shown = Bytes::new(alloc);
-    if (set as usize) < conf.sets().len() {
-        for expr in conf.exprs(set, copy) {
-            let line = expr.line;
-            let line = format!(in alloc; "|{line} ")?;
-            shown.extend(line.as_bytes())?;
-            shown.extend(expr.text.as_slice())?;
-        }
+    for expr in conf.exprs(set, copy) {
+        let line = expr.line;
+        let line = format!(in alloc; "|{line} ")?;
+        shown.extend(line.as_bytes())?;
+        shown.extend(expr.text.as_slice())?;
     }
     Ok(shown)
 }
 
 #[test]
 fn expressions_are_looked_up(rt: HostRuntime) -> Result<(), Fail> {
-    let table: [(&[u8], u32, u8, &[u8]); 10] = [
-        (TEXT, 1, 1, b"|25 ^DAY|34 ^Z"),
-        (TEXT, 1, 2, b"|32 X"),
-        (TEXT, 2, 1, b"|26 ^FIN"),
-        (TEXT, 2, 3, b"|33 Y"),
-        (TEXT, 5, 4, b"|33 Y"),
-        (LEVELS, 0, 1, b"|15 X"),
-        (LEVELS, 0, 2, b""),
-        (LEVELS, 1, 2, b"|16 Z"),
-        (LEVELS, 1, 1, b""),
-        (LEVELS, 2, 3, b""),
+    let table: [(&[u8], &[u8], u8, &[u8]); 10] = [
+        (TEXT, b"rushes", 1, b"|25 ^DAY|34 ^Z"),
+        (TEXT, b"rushes", 2, b"|32 X"),
+        (TEXT, b"finals", 1, b"|26 ^FIN"),
+        (TEXT, b"finals", 3, b"|33 Y"),
+        (TEXT, b"film1", 4, b"|33 Y"),
+        (LEVELS, b"a", 1, b"|15 X"),
+        (LEVELS, b"a", 2, b""),
+        (LEVELS, b"b", 2, b"|16 Z"),
+        (LEVELS, b"b", 1, b""),
+        (LEVELS, b"film1", 3, b""),
     ];
     for (text, set, copy, want) in table {
-        for conf in confs(rt.alloc(), text)?.as_slice() {
-            assert!(rt; conf.has_vsns());
-            let shown = exprs_of(rt.alloc(), conf, set, copy)?;
-            assert_eq!(rt; shown.as_slice(), want);
-        }
+        let conf = conf_of(rt.alloc(), text)?;
+        assert!(rt; conf.has_vsns());
+        assert_eq!(rt; exprs_of(rt.alloc(), &conf, set, copy)?.as_slice(), want);
     }
     Ok(())
 }

@@ -1,6 +1,6 @@
 //! Texts that are refused.
 
-use super::{plain_refusal, refusal};
+use super::refusal;
 use site_text::ConfFault;
 use std::test::Fail;
 
@@ -257,7 +257,6 @@ const AGAINST_OTHERS: [Refused; 32] = [
 fn refuses_forms(rt: HostRuntime) -> Result<(), Fail> {
     for (text, line, fault) in FORMS {
         assert_eq!(rt; refusal(rt.alloc(), text)?, Some((line, fault)));
-        assert_eq!(rt; plain_refusal(rt.alloc(), text)?, Some((line, fault)));
     }
     Ok(())
 }
@@ -266,7 +265,6 @@ fn refuses_forms(rt: HostRuntime) -> Result<(), Fail> {
 fn refuses_values(rt: HostRuntime) -> Result<(), Fail> {
     for (text, line, fault) in VALUES {
         assert_eq!(rt; refusal(rt.alloc(), text)?, Some((line, fault)));
-        assert_eq!(rt; plain_refusal(rt.alloc(), text)?, Some((line, fault)));
     }
     Ok(())
 }
@@ -275,7 +273,6 @@ fn refuses_values(rt: HostRuntime) -> Result<(), Fail> {
 fn refuses_what_is_against_others(rt: HostRuntime) -> Result<(), Fail> {
     for (text, line, fault) in AGAINST_OTHERS {
         assert_eq!(rt; refusal(rt.alloc(), text)?, Some((line, fault)));
-        assert_eq!(rt; plain_refusal(rt.alloc(), text)?, Some((line, fault)));
     }
     Ok(())
 }

@@ -1,10 +1,9 @@
 //! A configuration as a text: all its fields, one behind the other.
 
 use archiver_cmd::{
-    ArchiverConf, Assignment, CopyConf, CopyName, ParamsLine, SetConf, VsnsGroup, plain_archiver,
-    read_archiver,
+    ArchiverConf, Assignment, CopyConf, CopyName, ParamsLine, SetConf, VsnsGroup, read_archiver,
 };
-use site_text::{Bytes, List};
+use base::Bytes;
 use std::alloc::{AllocError, Global};
 use std::test::Fail;
 
@@ -36,14 +35,12 @@ fn put_assignment(
     alloc: Global,
     assignment: &Assignment,
 ) -> Result<(), AllocError> {
-    let Assignment {
-        line,
-        set,
-        local,
-        ..
-    } = assignment;
-    let front = format!(in alloc; "|a {line} {set} {local:?} ")?;
+    let Assignment { line, local, .. } = assignment;
+    let front = format!(in alloc; "|a {line} ")?;
     shown.extend(front.as_bytes())?;
+    shown.extend(assignment.set.as_slice())?;
+    let part = format!(in alloc; " {local:?} ")?;
+    shown.extend(part.as_bytes())?;
     shown.extend(assignment.path.as_slice())?;
     put_text(shown, b" name=", &assignment.name)?;
     put_text(shown, b" user=", &assignment.user)?;
@@ -141,13 +138,10 @@ fn shown(alloc: Global, conf: &ArchiverConf) -> Result<Bytes, AllocError> {
     Ok(text)
 }
 
-/// What the reader and then the plain one read in a text, for a site with this file system.
-pub fn both_shown(alloc: Global, text: &[u8], fs: &[u8]) -> Result<List<Bytes>, Fail> {
+/// What a text says, for a site with this file system.
+pub fn shown_in(alloc: Global, text: &[u8], fs: &[u8]) -> Result<Bytes, Fail> {
     if text.len() > 65536 {
         return Err("a long text".into());
     }
-    let mut both = List::new(alloc);
-    both.push(shown(alloc, &read_archiver(alloc, text, fs)?)?)?;
-    both.push(shown(alloc, &plain_archiver(alloc, text, fs)?)?)?;
-    Ok(both)
+    Ok(shown(alloc, &read_archiver(alloc, text, fs)?)?)
 }

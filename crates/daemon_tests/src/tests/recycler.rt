@@ -1,10 +1,9 @@
 //! recycler.cmd.
 
 use super::{Refused, SITE, Said, push_number, refused};
-use daemon_cmds::{
-    LibraryRecycling, NoRecycle, RecyclerConf, plain_recycler, read_recycler, read_site,
-};
-use site_text::{Bytes, ConfError, ConfFault};
+use base::Bytes;
+use daemon_cmds::{LibraryRecycling, NoRecycle, RecyclerConf, read_recycler, read_site};
+use site_text::{ConfError, ConfFault};
 use std::alloc::{AllocError, Global};
 use std::test::Fail;
 
@@ -63,15 +62,6 @@ fn said(alloc: Global, site: &[u8], text: &[u8]) -> Result<Bytes, ConfError> {
     Ok(shown(alloc, &read_recycler(alloc, text, &site)?)?)
 }
 
-/// The same of the plain slow reader.
-fn said_plainly(alloc: Global, site: &[u8], text: &[u8]) -> Result<Bytes, ConfError> {
-    if site.len() > 65536 || text.len() > 65536 {
-        return Err(ConfError::NoMemory);
-    }
-    let site = read_site(alloc, site)?;
-    Ok(shown(alloc, &plain_recycler(alloc, text, &site)?)?)
-}
-
 const SAID: [Said; 9] = [
     (b"", b"|95 60 1 1073741824 |95 60 1 1073741824 "),
     (
@@ -127,14 +117,9 @@ const SAID_OF_WORDS: [Said; 2] = [
 fn recycler_cmd_says(rt: HostRuntime) -> Result<(), Fail> {
     for (text, want) in SAID {
         assert_eq!(rt; said(rt.alloc(), SITE, text)?.as_slice(), want);
-        assert_eq!(rt; said_plainly(rt.alloc(), SITE, text)?.as_slice(), want);
     }
     for (text, want) in SAID_OF_WORDS {
         assert_eq!(rt; said(rt.alloc(), SITE_OF_WORDS, text)?.as_slice(), want);
-        assert_eq!(rt;
-            said_plainly(rt.alloc(), SITE_OF_WORDS, text)?.as_slice(),
-            want
-        );
     }
     Ok(())
 }
@@ -197,18 +182,10 @@ const REFUSED_OF_WORDS: [Refused; 4] = [
 fn recycler_cmd_is_refused(rt: HostRuntime) {
     for (text, line, fault) in REFUSED {
         assert_eq!(rt; said(rt.alloc(), SITE, text).err(), refused(line, fault));
-        assert_eq!(rt;
-            said_plainly(rt.alloc(), SITE, text).err(),
-            refused(line, fault)
-        );
     }
     for (text, line, fault) in REFUSED_OF_WORDS {
         assert_eq!(rt;
             said(rt.alloc(), SITE_OF_WORDS, text).err(),
-            refused(line, fault)
-        );
-        assert_eq!(rt;
-            said_plainly(rt.alloc(), SITE_OF_WORDS, text).err(),
             refused(line, fault)
         );
     }

@@ -1,8 +1,9 @@
 //! releaser.cmd.
 
 use super::{Refused, SITE, Said, push_number, refused};
-use daemon_cmds::{AgeWeights, ReleaserConf, plain_releaser, read_releaser, read_site};
-use site_text::{Bytes, ConfError, ConfFault};
+use base::Bytes;
+use daemon_cmds::{AgeWeights, ReleaserConf, read_releaser, read_site};
+use site_text::{ConfError, ConfFault};
 use std::alloc::{AllocError, Global};
 use std::test::Fail;
 
@@ -50,15 +51,6 @@ fn said(alloc: Global, site: &[u8], text: &[u8]) -> Result<Bytes, ConfError> {
     }
     let site = read_site(alloc, site)?;
     Ok(shown(alloc, &read_releaser(alloc, text, &site)?)?)
-}
-
-/// The same of the plain slow reader.
-fn said_plainly(alloc: Global, site: &[u8], text: &[u8]) -> Result<Bytes, ConfError> {
-    if site.len() > 65536 || text.len() > 65536 {
-        return Err(ConfError::NoMemory);
-    }
-    let site = read_site(alloc, site)?;
-    Ok(shown(alloc, &plain_releaser(alloc, text, &site)?)?)
 }
 
 const SAID: [Said; 19] = [
@@ -141,7 +133,6 @@ const SAID: [Said; 19] = [
 fn releaser_cmd_says(rt: HostRuntime) -> Result<(), Fail> {
     for (text, want) in SAID {
         assert_eq!(rt; said(rt.alloc(), SITE, text)?.as_slice(), want);
-        assert_eq!(rt; said_plainly(rt.alloc(), SITE, text)?.as_slice(), want);
     }
     Ok(())
 }
@@ -208,9 +199,5 @@ const REFUSED: [Refused; 31] = [
 fn releaser_cmd_is_refused(rt: HostRuntime) {
     for (text, line, fault) in REFUSED {
         assert_eq!(rt; said(rt.alloc(), SITE, text).err(), refused(line, fault));
-        assert_eq!(rt;
-            said_plainly(rt.alloc(), SITE, text).err(),
-            refused(line, fault)
-        );
     }
 }

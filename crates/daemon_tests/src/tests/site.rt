@@ -1,8 +1,9 @@
 //! site.conf.
 
 use super::{Refused, Said, push_number, refused};
-use daemon_cmds::{Library, SiteConf, Volume, plain_site, read_site};
-use site_text::{Bytes, ConfError, ConfFault};
+use base::Bytes;
+use daemon_cmds::{Library, SiteConf, Volume, read_site};
+use site_text::{ConfError, ConfFault};
 use std::alloc::{AllocError, Global};
 use std::test::Fail;
 
@@ -55,14 +56,6 @@ fn said(alloc: Global, text: &[u8]) -> Result<Bytes, ConfError> {
     Ok(shown(alloc, &read_site(alloc, text)?)?)
 }
 
-/// The same of the plain slow reader.
-fn said_plainly(alloc: Global, text: &[u8]) -> Result<Bytes, ConfError> {
-    if text.len() > 65536 {
-        return Err(ConfError::NoMemory);
-    }
-    Ok(shown(alloc, &plain_site(alloc, text)?)?)
-}
-
 const SAID: [Said; 11] = [
     (b"", b"samfs1 67108864 80 70 "),
     (
@@ -112,7 +105,6 @@ const SAID: [Said; 11] = [
 fn site_conf_says(rt: HostRuntime) -> Result<(), Fail> {
     for (text, want) in SAID {
         assert_eq!(rt; said(rt.alloc(), text)?.as_slice(), want);
-        assert_eq!(rt; said_plainly(rt.alloc(), text)?.as_slice(), want);
     }
     Ok(())
 }
@@ -244,7 +236,6 @@ const AGAINST_OTHERS: [Refused; 24] = [
 fn site_conf_is_of_no_form(rt: HostRuntime) {
     for (text, line, fault) in OF_NO_FORM {
         assert_eq!(rt; said(rt.alloc(), text).err(), refused(line, fault));
-        assert_eq!(rt; said_plainly(rt.alloc(), text).err(), refused(line, fault));
     }
 }
 
@@ -252,6 +243,5 @@ fn site_conf_is_of_no_form(rt: HostRuntime) {
 fn site_conf_is_against_others(rt: HostRuntime) {
     for (text, line, fault) in AGAINST_OTHERS {
         assert_eq!(rt; said(rt.alloc(), text).err(), refused(line, fault));
-        assert_eq!(rt; said_plainly(rt.alloc(), text).err(), refused(line, fault));
     }
 }

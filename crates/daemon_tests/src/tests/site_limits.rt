@@ -1,8 +1,9 @@
 //! How many libraries and volumes a site.conf may have.
 
 use super::{push_number, refused};
-use daemon_cmds::{plain_site, read_site};
-use site_text::{Bytes, ConfError, ConfFault};
+use base::Bytes;
+use daemon_cmds::read_site;
+use site_text::{ConfError, ConfFault};
 use std::alloc::{AllocError, Global};
 use std::test::Fail;
 
@@ -22,28 +23,24 @@ fn numbered(
     Ok(())
 }
 
-/// How many libraries and volumes the reader and the plain one say.
-fn counts(alloc: Global, text: &[u8]) -> [Result<(usize, usize), ConfError>; 2] {
+/// How many libraries and volumes a text says.
+fn counts(alloc: Global, text: &[u8]) -> Result<(usize, usize), ConfError> {
     if text.len() > 65536 {
-        return [Err(ConfError::NoMemory), Err(ConfError::NoMemory)];
+        return Err(ConfError::NoMemory);
     }
-    [
-        read_site(alloc, text).map(|site| (site.libraries.len(), site.volumes.len())),
-        plain_site(alloc, text).map(|site| (site.libraries.len(), site.volumes.len())),
-    ]
+    read_site(alloc, text).map(|site| (site.libraries.len(), site.volumes.len()))
 }
 
 #[test]
 fn site_has_so_many_libraries(rt: HostRuntime) -> Result<(), Fail> {
     let mut text = Bytes::new(rt.alloc());
     numbered(rt.alloc(), &mut text, b"library = l", 64, b"1\n")?;
-    for answer in counts(rt.alloc(), text.as_slice()) {
-        assert_eq!(rt; answer, Ok((64, 0)));
-    }
+    assert_eq!(rt; counts(rt.alloc(), text.as_slice()), Ok((64, 0)));
     text.extend(b"library =")?;
-    for answer in counts(rt.alloc(), text.as_slice()) {
-        assert_eq!(rt; answer.err(), refused(65, ConfFault::TooMany));
-    }
+    assert_eq!(rt;
+        counts(rt.alloc(), text.as_slice()).err(),
+        refused(65, ConfFault::TooMany)
+    );
     Ok(())
 }
 
@@ -51,12 +48,11 @@ fn site_has_so_many_libraries(rt: HostRuntime) -> Result<(), Fail> {
 fn site_has_so_many_volumes(rt: HostRuntime) -> Result<(), Fail> {
     let mut text = Bytes::from_slice(rt.alloc(), b"library = a 1\n")?;
     numbered(rt.alloc(), &mut text, b"volume = a li V", 1024, b"1M\n")?;
-    for answer in counts(rt.alloc(), text.as_slice()) {
-        assert_eq!(rt; answer, Ok((1, 1024)));
-    }
+    assert_eq!(rt; counts(rt.alloc(), text.as_slice()), Ok((1, 1024)));
     text.extend(b"volume = b")?;
-    for answer in counts(rt.alloc(), text.as_slice()) {
-        assert_eq!(rt; answer.err(), refused(1026, ConfFault::TooMany));
-    }
+    assert_eq!(rt;
+        counts(rt.alloc(), text.as_slice()).err(),
+        refused(1026, ConfFault::TooMany)
+    );
     Ok(())
 }

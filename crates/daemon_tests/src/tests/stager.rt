@@ -1,8 +1,9 @@
 //! stager.cmd.
 
 use super::{Refused, SITE, Said, push_number, refused};
-use daemon_cmds::{StagerConf, plain_stager, read_site, read_stager};
-use site_text::{Bytes, ConfError, ConfFault};
+use base::Bytes;
+use daemon_cmds::{StagerConf, read_site, read_stager};
+use site_text::{ConfError, ConfFault};
 use std::alloc::{AllocError, Global};
 use std::test::Fail;
 
@@ -32,15 +33,6 @@ fn said(alloc: Global, site: &[u8], text: &[u8]) -> Result<Bytes, ConfError> {
     }
     let site = read_site(alloc, site)?;
     Ok(shown(alloc, &read_stager(alloc, text, &site)?)?)
-}
-
-/// The same of the plain slow reader.
-fn said_plainly(alloc: Global, site: &[u8], text: &[u8]) -> Result<Bytes, ConfError> {
-    if site.len() > 65536 || text.len() > 65536 {
-        return Err(ConfError::NoMemory);
-    }
-    let site = read_site(alloc, site)?;
-    Ok(shown(alloc, &plain_stager(alloc, text, &site)?)?)
 }
 
 const SAID: [Said; 8] = [
@@ -73,7 +65,6 @@ const SAID: [Said; 8] = [
 fn stager_cmd_says(rt: HostRuntime) -> Result<(), Fail> {
     for (text, want) in SAID {
         assert_eq!(rt; said(rt.alloc(), SITE, text)?.as_slice(), want);
-        assert_eq!(rt; said_plainly(rt.alloc(), SITE, text)?.as_slice(), want);
     }
     Ok(())
 }
@@ -125,9 +116,5 @@ const REFUSED: [Refused; 32] = [
 fn stager_cmd_is_refused(rt: HostRuntime) {
     for (text, line, fault) in REFUSED {
         assert_eq!(rt; said(rt.alloc(), SITE, text).err(), refused(line, fault));
-        assert_eq!(rt;
-            said_plainly(rt.alloc(), SITE, text).err(),
-            refused(line, fault)
-        );
     }
 }

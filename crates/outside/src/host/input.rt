@@ -2,6 +2,7 @@
 
 ghost use Rattle.std.specs.Prelude.{◌≡◌};
 
+use super::tries::read_some;
 use crate::stream::{Failed, Source};
 use std::io::Read;
 
@@ -33,7 +34,7 @@ impl<R: Read + Drop> Source for StandardInput<R> {
     ghost beside = { λ _. record { bytes = None; faults = 0 } };
 
     fn read(&mut self, into: &mut [u8]) -> Result<usize, Failed> {
-        match self.reader.read(into) {
+        match read_some(&mut self.reader, into) {
             Ok(count) => Ok(count),
             Err(_) => {
                 self.faults = self.faults.saturating_add(1);

@@ -2,6 +2,7 @@
 
 ghost use Rattle.std.specs.Prelude.{◌≡◌};
 
+use super::tries::write_some;
 use crate::stream::{Failed, Sink};
 
 /// Standard output of the host as a sink. It keeps no byte back, and tells nothing of what was written.
@@ -30,7 +31,7 @@ impl<R: Print + Drop> Sink for StandardOutput<R> {
     ghost beside = { λ _. record { bytes = None; faults = 0 } };
 
     fn write(&mut self, bytes: &[u8]) -> Result<usize, Failed> {
-        match self.host.write_some(bytes) {
+        match write_some(&self.host, bytes) {
             Ok(count) if count > 0 || bytes.is_empty() => Ok(count),
             _ => {
                 self.faults = self.faults.saturating_add(1);

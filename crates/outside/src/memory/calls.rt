@@ -3,7 +3,7 @@
 ghost use Rattle.std.specs.Prelude.{◌≡◌, ◌+◌, ◌-◌, ◌^◌, ◌==◌, min};
 ghost use Rattle.std.specs.List.{list_any};
 
-use site_text::List;
+use base::List;
 
 /// The calls that were made, and the numbers of those that fail, counted from 1.
 #[derive(Drop)]

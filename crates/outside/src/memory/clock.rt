@@ -3,7 +3,7 @@
 ghost use Rattle.std.specs.Prelude.{◌≡◌};
 
 use crate::clock::Clock;
-use site_text::List;
+use base::List;
 use std::marker::Model;
 
 /// A clock over a list of moments.

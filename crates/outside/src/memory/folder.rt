@@ -6,7 +6,7 @@ ghost use Rattle.outside.specs.Folders.{text_under};
 
 use crate::folder::{Folder, FolderFault, LONGEST_READ, NamedText};
 use crate::memory::calls::Calls;
-use site_text::{Bytes, List};
+use base::{Bytes, List};
 use std::alloc::Global;
 use std::marker::Model;
 

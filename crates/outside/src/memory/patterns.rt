@@ -5,7 +5,7 @@ ghost use Rattle.outside.specs.Literals.{contains_text};
 
 use crate::memory::calls::Calls;
 use crate::patterns::{PatternFault, Patterns};
-use site_text::{Bytes, List};
+use base::{Bytes, List};
 use std::alloc::Global;
 use std::marker::Model;
 

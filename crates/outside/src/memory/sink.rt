@@ -4,7 +4,7 @@ ghost use Rattle.std.specs.Prelude.{◌≡◌, ◌<◌, []};
 
 use crate::memory::calls::Calls;
 use crate::stream::{Failed, Sink};
-use site_text::{Bytes, List};
+use base::{Bytes, List};
 use std::alloc::Global;
 use std::marker::Model;
 

@@ -4,7 +4,7 @@ ghost use Rattle.std.specs.Prelude.{◌≡◌, ◌<◌, ◌≤◌, length, take,
 
 use crate::memory::calls::Calls;
 use crate::stream::{Failed, Source};
-use site_text::{Bytes, List};
+use base::{Bytes, List};
 use std::marker::Model;
 
 // Copies the first bytes, at most `most` of them.

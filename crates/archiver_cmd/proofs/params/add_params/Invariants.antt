@@ -1,5 +1,5 @@
 use Rattle.std.proofs.Common.{◌≡◌, fold, take}
-use Rattle.archiver_cmd.specs.Params.{with_param}
+use Rattle.archiver_cmd.specs.ParamsSteps.{with_param}
 use Rattle.archiver_cmd.proofs.params.add_params.Given as goal
 
 abbrev pub invariant-loop-one : goal.invariant-loop-one

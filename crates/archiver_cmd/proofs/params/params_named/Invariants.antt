@@ -1,5 +1,5 @@
 use Rattle.std.proofs.Common.{◌≡◌, take}
-use Rattle.archiver_cmd.specs.Params.{params_named}
+use Rattle.archiver_cmd.specs.ParamsSteps.{params_named}
 use Rattle.archiver_cmd.specs.Levels.{name_at}
 use Rattle.archiver_cmd.proofs.params.params_named.Given as goal
 

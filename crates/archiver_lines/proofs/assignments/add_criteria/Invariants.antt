@@ -1,5 +1,5 @@
 use Rattle.std.proofs.Common.{◌≡◌, fold}
-use Rattle.archiver_lines.specs.Assignments.{with_criterion}
+use Rattle.archiver_lines.specs.AssignmentSteps.{with_criterion}
 use Rattle.archiver_lines.proofs.assignments.add_criteria.Given as goal
 
 abbrev pub invariant-loop-criterion : goal.invariant-loop-criterion

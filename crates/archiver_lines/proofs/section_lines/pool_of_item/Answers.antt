@@ -1,6 +1,6 @@
 use Rattle.std.proofs.Common.{◌≡◌, true, false, codes, rules}
 use Rattle.std.specs.Str.{bytes_eq}
-use Rattle.archiver_lines.specs.SectionLines.{is_pool}
+use Rattle.archiver_lines.specs.SectionRules.{is_pool}
 use Rattle.archiver_lines.proofs.Items.{pool_unknown}
 use Rattle.archiver_lines.proofs.section_lines.pool_of_item.Goals as goal
 

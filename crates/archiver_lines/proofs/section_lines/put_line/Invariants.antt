@@ -1,5 +1,5 @@
 use Rattle.std.proofs.Common.{◌≡◌, ◌++◌, take, map}
-use Rattle.archiver_lines.specs.SectionLines.{expr_of}
+use Rattle.archiver_lines.specs.SectionRules.{expr_of}
 use Rattle.archiver_lines.proofs.section_lines.put_line.Given as goal
 
 abbrev pub invariant-loop-text : goal.invariant-loop-text

@@ -1,5 +1,5 @@
 use Rattle.std.proofs.Common.{◌≡◌, ◌++◌, take}
-use Rattle.archiver_lines.specs.SectionLines.{pool_exprs}
+use Rattle.archiver_lines.specs.SectionRules.{pool_exprs}
 use Rattle.archiver_lines.proofs.section_lines.put_pool.Given as goal
 
 abbrev pub invariant-loop-line : goal.invariant-loop-line

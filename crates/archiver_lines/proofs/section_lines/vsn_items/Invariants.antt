@@ -1,5 +1,5 @@
 use Rattle.std.proofs.Common.{◌≡◌, [], length}
-use Rattle.archiver_lines.specs.SectionLines.{items_of}
+use Rattle.archiver_lines.specs.SectionSteps.{items_of}
 use Rattle.archiver_lines.proofs.section_lines.vsn_items.Given as goal
 
 abbrev pub invariant-loop-first : goal.invariant-loop-first

@@ -1,4 +1,5 @@
 use Rattle.configuration.proofs.Laws.{read-says, say-read, refused-wrong, wrong-refused, one-meaning, says-blocks, blocks-range}
+use Rattle.configuration.proofs.OneConfiguration.{one-configuration}
 use Rattle.configuration.proofs.meaning.texts_say_one_thing.Goals as goal
 
 pub returns-clause-said : goal.returns-clause-said
@@ -9,6 +10,9 @@ returns-clause-wrong c texts refusal = (refused-wrong texts refusal, wrong-refus
 
 pub returns-clause-one_meaning : goal.returns-clause-one_meaning
 returns-clause-one_meaning c = one-meaning
+
+pub returns-clause-one_configuration : goal.returns-clause-one_configuration
+returns-clause-one_configuration c = one-configuration
 
 pub returns-clause-cache : goal.returns-clause-cache
 returns-clause-cache c = says-blocks

@@ -1,4 +1,4 @@
-use Rattle.daemon_cmds.proofs.EachLibrary.{each_is_recycled}
+use Rattle.daemon_cmds.proofs.RecyclerKnown.{each_is_recycled}
 use Rattle.daemon_cmds.proofs.recycler.read_recycler.Goals as goal
 
 pub returns-clause-each_library : goal.returns-clause-each_library

@@ -1,4 +1,4 @@
-use Rattle.daemon_cmds.proofs.EachLibrary.{each_has_drives}
+use Rattle.daemon_cmds.proofs.StagerKnown.{each_has_drives}
 use Rattle.daemon_cmds.proofs.stager.read_stager.Goals as goal
 
 pub returns-clause-each_library : goal.returns-clause-each_library

@@ -1,5 +1,5 @@
 use Rattle.std.proofs.Common.{ℕ, List, sym, ap, ◌∙◌}
-use Rattle.daemon_cmds.specs.StagerLines.{copy_numbers}
+use Rattle.daemon_cmds.specs.StagerRules.{copy_numbers}
 use Rattle.daemon_cmds.proofs.CopyNumbers.{behind, numbers_read, goes_on, stops, ends, ends_wrong}
 use Rattle.daemon_cmds.proofs.stager_lines.copy_numbers.Goals as goal
 

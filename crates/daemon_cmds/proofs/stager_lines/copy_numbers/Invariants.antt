@@ -1,5 +1,5 @@
 use Rattle.std.proofs.Common.{◌≡◌, length}
-use Rattle.daemon_cmds.specs.StagerLines.{copy_numbers}
+use Rattle.daemon_cmds.specs.StagerRules.{copy_numbers}
 use Rattle.daemon_cmds.proofs.CopyNumbers.{behind}
 use Rattle.daemon_cmds.proofs.stager_lines.copy_numbers.Given as goal
 

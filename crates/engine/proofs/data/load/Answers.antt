@@ -13,6 +13,7 @@ loop-run-init g c = record {
   bytes = λ told bytes enough stand. refl;
   unchanged = λ told. nothing_read _ (g.met.B.Bank.sound _ told);
   later = omega arith;
+  journal = refl;
   last = refl;
 }
 
@@ -31,6 +32,7 @@ loop-run-preserved g c =
           ∙ read_more c.args.runs.now c.loop-run.run-index _ c.loop-run-test.true c.loop-run.done c.room_of.result (length c.loop-run.into) c.min-count.result i.done c.room_of.ensures c.min-count.ensures
           _ bytes c.loop-run.into c.read_run.new.into refl (omega (arith, enough, long)) stand (i.bytes told bytes (omega (arith, enough, long)) stand) got (stood_before _ _ 1 _ _ (i.unchanged told) (c.in_ok-read_run.ensures.bytes told));
       unchanged = λ told. read_then_read _ _ _ (i.unchanged told) (c.read_run.ensures.unchanged told);
-      later = omega (arith, i.later, c.read_run.ensures.cause.later);
-      last = c.in_ok-read_run.ensures.last ∙ i.last;
+      later = omega (arith, i.later, c.read_run.ensures.counted.later);
+      journal = c.read_run.ensures.counted.journal ∙ i.journal;
+      last = c.in_ok-read_run.ensures.counted.last ∙ i.last;
     }

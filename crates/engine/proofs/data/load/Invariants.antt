@@ -13,5 +13,6 @@ invariant-loop-run g l = record {
       → take l.done l.into ≡ take l.done bytes;
   unchanged : IsTrue g.B.Bank.tells → OnlyRead (g.B.Bank.view l.fn.bank) (g.B.Bank.view l.bank);
   later : g.B.Bank.faults l.fn.bank ≤ g.B.Bank.faults l.bank;
+  journal : g.B.Bank.journal_faults l.bank ≡ g.B.Bank.journal_faults l.fn.bank;
   last : g.B.Bank.last_fault l.bank ≡ g.B.Bank.last_fault l.fn.bank;
 }

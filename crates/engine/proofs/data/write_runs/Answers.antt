@@ -9,6 +9,7 @@ loop-run-init g c = record {
   wrote = λ told. nothing_written _ _ (g.met.B.Bank.sound _ told);
   written = λ told. tt;
   later = omega arith;
+  journal = refl;
   last = refl;
 }
 
@@ -32,6 +33,7 @@ loop-run-preserved g c = record {
       ∙ next_piece c.args.runs.now c.args.bytes.now c.loop-run.rest.now c.loop-run.run-index _ c.loop-run-test.true c.loop-run.invariant.left)
       (omega (arith, c.split_at.ensures.front_len, c.min-count.ensures, c.room_of.ensures))
       (c.write_run.ensures.torn told) (c.in_ok-write_run.ensures.written told) (c.loop-run.invariant.written told);
-  later = omega (arith, c.loop-run.invariant.later, c.write_run.ensures.cause.later);
-  last = c.in_ok-write_run.ensures.last ∙ c.loop-run.invariant.last;
+  later = omega (arith, c.loop-run.invariant.later, c.write_run.ensures.counted.later);
+  journal = c.write_run.ensures.counted.journal ∙ c.loop-run.invariant.journal;
+  last = c.in_ok-write_run.ensures.counted.last ∙ c.loop-run.invariant.last;
 }

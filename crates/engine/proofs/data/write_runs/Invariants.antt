@@ -12,5 +12,6 @@ invariant-loop-run g l = record {
   wrote : IsTrue g.B.Bank.tells → WroteInside 1 (in_blocks_of l.runs) (g.B.Bank.view l.fn.bank) (g.B.Bank.view l.bank);
   written : IsTrue g.B.Bank.tells → AllStand (g.B.Bank.view l.bank).content (extents_over (take l.run-index l.runs) l.bytes);
   later : g.B.Bank.faults l.fn.bank ≤ g.B.Bank.faults l.bank;
+  journal : g.B.Bank.journal_faults l.bank ≡ g.B.Bank.journal_faults l.fn.bank;
   last : g.B.Bank.last_fault l.bank ≡ g.B.Bank.last_fault l.fn.bank;
 }

@@ -1,29 +1,35 @@
-use Rattle.std.proofs.Common.{ℕ, List, sym, subst}
-use Rattle.journal.specs.Records.{HoldsRecords, IsBadAt}
-use Rattle.site_state.specs.Replays.{Replays, TellsPayloads}
-use Rattle.engine.specs.declared.engine.ShutCause.{ShutCause}
+use Rattle.std.proofs.Common.{ℕ, List, ◌∙◌, subst}
+use Rattle.bank.specs.Content.{Content}
+use Rattle.bank.proofs.Readings.{read_then_read}
+use Rattle.journal.specs.Records.{HoldsRecords}
+use Rattle.site_history.specs.Histories.{written_forms}
 use Rattle.engine.specs.Journals.{TellsJournal}
-use Rattle.engine.proofs.Reading.{replayed, tells_journal, bad_record}
+use Rattle.engine.proofs.Reading.{same_content, read_none, replayed, held}
 use Rattle.engine.proofs.reopen.read_site.Goals as goal
 
-pub returns-in-Ok-replay-clause-read : goal.returns-in-Ok-replay-clause-read
-returns-in-Ok-replay-clause-read g c =
-    let h = subst (λ (l : List (List ℕ)). Replays c.in-Ok-replay.site l) c.as_slice.ensures c.in-Ok-replay.ensures.site in (
-      h.steps,
-      replayed c.in-Ok.journal c.in-Ok-replay.site c.in-Ok.payloads h c.in-Ok.ensures.count c.in-Ok.ensures.place,
-      λ told. subst (λ (l : List (List ℕ)). HoldsRecords ((g.B.Bank.view c.reopen.new.bank).content 0) 0 l c.args.size) h.forms (c.in-Ok.ensures.records told),
+pub replay_rest-requires-clause-so_far : goal.replay_rest-requires-clause-so_far
+replay_rest-requires-clause-so_far g c =
+    read_none g.B.Bank.tells ((g.B.Bank.view c.open.new.bank).content 0) c.in-Ok.reader c.in-Ok-first.site c.in-Ok-first.ensures c.in-Ok.ensures.place c.in-Ok.ensures.count
+
+pub returns-in-Err-clause-unchanged : goal.returns-in-Err-clause-unchanged
+returns-in-Err-clause-unchanged g c = λ told. read_then_read _ _ _ (c.open.ensures.unchanged told) (c.replay_rest.ensures.unchanged told)
+
+pub returns-in-Err-clause-bad : goal.returns-in-Err-clause-bad
+returns-in-Err-clause-bad g c = λ told.
+    subst (λ (content : Content). TellsJournal c.args.size content c.in-Err.cause) (same_content (g.B.Bank.view c.open.new.bank) (g.B.Bank.view c.replay_rest.new.bank) (c.replay_rest.ensures.unchanged told))
+    (subst (λ (n : ℕ). TellsJournal n ((g.B.Bank.view c.open.new.bank).content 0) c.in-Err.cause) c.in-Ok.ensures.size (c.in-Err.ensures.bad told))
+
+pub returns-in-Ok-replay_rest-clause-unchanged : goal.returns-in-Ok-replay_rest-clause-unchanged
+returns-in-Ok-replay_rest-clause-unchanged g c = λ told. read_then_read _ _ _ (c.open.ensures.unchanged told) (c.replay_rest.ensures.unchanged told)
+
+pub returns-in-Ok-replay_rest-clause-read : goal.returns-in-Ok-replay_rest-clause-read
+returns-in-Ok-replay_rest-clause-read g c =
+    let before = (g.B.Bank.view c.open.new.bank).content 0 in
+    let h = c.in-Ok-replay_rest.ensures.read in (
+      h.so_far.steps,
+      replayed g.B.Bank.tells before c.into_journal.result c.replay_rest.new.reader c.replay_rest.new.site h c.into_journal.ensures.count c.into_journal.ensures.place,
+      λ told. subst (λ (content : Content). HoldsRecords content 0 (written_forms h.so_far.steps) c.args.size)
+          (same_content (g.B.Bank.view c.open.new.bank) (g.B.Bank.view c.replay_rest.new.bank) (c.replay_rest.ensures.unchanged told))
+          (subst (λ (n : ℕ). HoldsRecords before 0 (written_forms h.so_far.steps) n) (c.replay_rest.ensures.size ∙ c.in-Ok.ensures.size)
+          (held g.B.Bank.tells before c.replay_rest.new.reader c.replay_rest.new.site h told)),
     )
-
-pub returns-in-Ok-clause-bad : goal.returns-in-Ok-clause-bad
-returns-in-Ok-clause-bad g c = λ told.
-    subst (λ (cause : ShutCause). TellsJournal c.args.size ((g.B.Bank.view c.reopen.new.bank).content 0) cause) (sym c.cause_of.ensures)
-    (tells_journal c.args.size ((g.B.Bank.view c.reopen.new.bank).content 0) c.in-Ok.payloads c.in-Err.refusal c.requires (c.in-Ok.ensures.records told).records
-    (subst (λ (l : List (List ℕ)). TellsPayloads l c.in-Err.refusal) c.as_slice.ensures c.in-Err.ensures.refusal))
-
-pub returns-in-Err-BadRecord-clause-bad : goal.returns-in-Err-BadRecord-clause-bad
-returns-in-Err-BadRecord-clause-bad g c = λ told.
-    let bad = bad_record c.in-Err-BadRecord.field-0 c.in-Err-BadRecord.place c.in-Err-BadRecord.payloads (λ place payloads. IsBadAt ((g.B.Bank.view c.reopen.new.bank).content 0) place c.args.size payloads)
-    c.in-Err-BadRecord.field-0-is (c.in-Err-BadRecord.ensures.bad told) in
-    subst (λ (cause : ShutCause). TellsJournal c.args.size ((g.B.Bank.view c.reopen.new.bank).content 0) cause) (sym c.cause_of-in-Err-replay.ensures)
-    (tells_journal c.args.size ((g.B.Bank.view c.reopen.new.bank).content 0) c.in-Err-BadRecord.payloads c.in-Err-replay.refusal c.requires bad.before
-    (subst (λ (l : List (List ℕ)). TellsPayloads l c.in-Err-replay.refusal) c.as_slice-in-Err-BadRecord.ensures c.in-Err-replay.ensures.refusal))

@@ -3,7 +3,7 @@ use Rattle.std.proofs.lemmas.Grind.{common_steps}
 use Rattle.input.specs.Lines.{line_of}
 use Rattle.input.specs.Reading.{Reading}
 use Rattle.input.specs.Reads.{TellsLine}
-use Rattle.input.specs.declared.plain.RawLine.TheVariants.{Long}
+use Rattle.input.specs.Lines.{Long}
 use Rattle.input.proofs.LineLaws.{begun, one_more, pushed, too_long, fed_line, last_line, cut_line, over_line, is_not_empty}
 use Rattle.input.proofs.Steps.{falls_by}
 use Rattle.input.proofs.line.next_line.Goals as goal

@@ -3,7 +3,7 @@ use Rattle.outside.proofs.Pieces.{written_more, written_front}
 use Rattle.outside.proofs.stream.write_all.Goals as goal
 
 pub returns-in_err-at-clause-bytes : goal.returns-in_err-at-clause-bytes
-returns-in_err-at-clause-bytes g c = written_front _ _ _ _ c.loop-at.at _ c.from_residual.ensures.0 c.loop-at.invariant.written c.in_err-at.ensures.bytes
+returns-in_err-at-clause-bytes g c = written_front _ _ _ _ c.loop-at.at _ c.loop-at-test.true c.from_residual.ensures.0 c.loop-at.invariant.written c.in_err-at.ensures.bytes
 
 pub loop-at-preserved : goal.loop-at-preserved
 loop-at-preserved g c = record {

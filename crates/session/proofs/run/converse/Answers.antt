@@ -45,7 +45,7 @@ returns-in-Some-clause-session g c = λ told tells stage h at_moment.
     let r = c.lines.invariant.ran told tells stage h at_moment in
     let heard = c.in-Asks.ensures.hears in
     let round = c.in-Some.ensures.round told tells (stage_after stage r.rounds) r.stands (sym r.at_moment) heard.0 heard.1 in
-    ends_at asks_of _ _ _ _ _ _ _ _ stage (sym h.due ∙ c.requires.ready) _ _ _ r _ _ _ heard.0 heard.2 _ _ _ _ _ _ _ _ _ _ round.0 _ c.lines.invariant.size refl c.in-Some.ensures.folder_texts round.1
+    ends_at asks_of _ _ _ _ _ _ _ _ stage (sym h.due ∙ c.requires.ready) _ _ _ r _ _ _ heard.0 heard.2 _ _ _ _ _ _ _ _ _ _ _ _ round.0 _ c.lines.invariant.size refl c.in-Some.ensures.folder_texts round.1
     c.requires.fresh.nothing_held c.requires.fresh.still_open c.lines.invariant.sink_later c.in-Some.ending round.1.tells_answer
 
 pub returns-in-Some-clause-passes : goal.returns-in-Some-clause-passes
@@ -64,7 +64,7 @@ lines-preserved g c = record {
       let r = c.lines.invariant.ran told tells stage h at_moment in
       let heard = c.in-Asks.ensures.hears in
       let round = c.in-None.ensures.round told tells (stage_after stage r.rounds) r.stands (sym r.at_moment) heard.0 heard.1 in
-      goes_on asks_of _ _ _ _ _ _ _ _ stage (sym h.due ∙ c.requires.ready) _ _ _ r _ _ _ heard.0 heard.2 _ _ _ _ _ _ _ _ _ _ round.0 _ c.lines.invariant.size refl c.in-None.ensures.folder_texts round.1 _ round.2 round.1.tells_answer;
+      goes_on asks_of _ _ _ _ _ _ _ _ stage (sym h.due ∙ c.requires.ready) _ _ _ r _ _ _ heard.0 heard.2 _ _ _ _ _ _ _ _ _ _ _ _ round.0 _ c.lines.invariant.size refl c.in-None.ensures.folder_texts round.1 _ round.2 round.1.tells_answer;
   passes = λ told tells stage h at_moment t.
       let r = c.lines.invariant.ran told tells stage h at_moment in
       let heard = c.in-Asks.ensures.hears in

@@ -11,8 +11,8 @@ abbrev pub invariant-lines : goal.invariant-lines
 invariant-lines g l = record {
   ran : (told : Bool) → (IsTrue told → IsTrue g.B.Bank.tells) → (stage : Stage) → StandsFor told g.B.Bank.view l.fn.session.engine stage.world → l.fn.session.moment ≡ stage.now
       → Ran asks_of (StandsFor told g.B.Bank.view l.session.engine) told l.fn.session.engine.journal.size (g.B.Bank.view l.session.engine.bank)
-      (seen g.I.Source.left g.I.Source.faults g.O.Sink.written g.O.Sink.faults g.F.Folder.texts g.F.Folder.faults g.B.Bank.faults g.B.Bank.view l.fn.input l.fn.output l.fn.folder l.fn.session.engine.bank)
-      (seen g.I.Source.left g.I.Source.faults g.O.Sink.written g.O.Sink.faults g.F.Folder.texts g.F.Folder.faults g.B.Bank.faults g.B.Bank.view l.input l.output l.folder l.session.engine.bank)
+      (seen g.I.Source.left g.I.Source.faults g.O.Sink.written g.O.Sink.faults g.F.Folder.texts g.F.Folder.faults g.B.Bank.faults g.B.Bank.journal_faults g.B.Bank.last_fault g.B.Bank.view l.fn.input l.fn.output l.fn.folder l.fn.session.engine.bank)
+      (seen g.I.Source.left g.I.Source.faults g.O.Sink.written g.O.Sink.faults g.F.Folder.texts g.F.Folder.faults g.B.Bank.faults g.B.Bank.journal_faults g.B.Bank.last_fault g.B.Bank.view l.input l.output l.folder l.session.engine.bank)
       l.fn.reader l.reader stage l.session.moment l.session.marks.items l.session.status;
   passes : (told : Bool) → (IsTrue told → IsTrue g.B.Bank.tells) → (stage : Stage) → StandsFor told g.B.Bank.view l.fn.session.engine stage.world → l.fn.session.moment ≡ stage.now
       → IsTrue told → Passes (g.B.Bank.view l.fn.session.engine.bank) (g.B.Bank.view l.session.engine.bank);

@@ -1,9 +1,11 @@
 use Rattle.std.proofs.Common.{◌≡◌, inl, inr, refl, ap, sym, ◌∙◌, subst, ℕ, arith, false, true, IsTrue, []}
 use Rattle.std.proofs.KnownBytes.{Appends-nil}
 use Rattle.bank.specs.View.{OnlyRead}
+use Rattle.site_history.proofs.JournalLaws.{not_bad_journal}
+use Rattle.session.specs.Outcomes.{journal_bytes}
 use Rattle.session.specs.Rounds.{first_of}
 use Rattle.session.proofs.Handing.{handed, answered_status}
-use Rattle.session.proofs.Refusals.{shut_outcome, shut_status, refused_outcome}
+use Rattle.session.proofs.Refusals.{shut_refused, shut_status, still_settled}
 use Rattle.session.proofs.Statuses.{never_bad}
 use Rattle.session.proofs.StatusCauses.{by_memory}
 use Rattle.session.proofs.run.run_lines.Goals as goal
@@ -13,10 +15,17 @@ no_tells : {A : Type 0} → IsTrue false → A
 no_tells t = absurd (let e : false ≡ true = t in cc)
 
 -- the store was shut
+pub returns-in-Err-clause-spared : goal.returns-in-Err-clause-spared
+returns-in-Err-clause-spared g c = λ tells place bad.
+    shut_refused _ _ g.B.Bank.tells (g.B.Bank.view c.args.bank) (g.B.Bank.view c.in-Err.shut.bank) c.in-Err.shut.refusal _ c.refuse-status.ensures.status c.in-Err.ensures.fault c.in-Err.ensures.bad_journal c.refuse-status.ensures.bytes
+    _ c.in-Err.ensures.unchanged refl refl refl refl c.new.ensures
+
 pub returns-in-Err-clause-outcome : goal.returns-in-Err-clause-outcome
-returns-in-Err-clause-outcome g c = λ told tells before settled.
-    inr (shut_outcome _ _ g.B.Bank.tells _ _ c.in-Err.shut.refusal _ c.refuse-status.ensures.status c.in-Err.ensures.fault c.in-Err.ensures.bad_journal c.refuse-status.ensures.bytes
-    told before _ tells c.in-Err.ensures.unchanged settled refl refl refl refl c.new.ensures)
+returns-in-Err-clause-outcome g c = λ told tells before settled. inr (
+  shut_refused _ _ g.B.Bank.tells (g.B.Bank.view c.args.bank) (g.B.Bank.view c.in-Err.shut.bank) c.in-Err.shut.refusal _ c.refuse-status.ensures.status c.in-Err.ensures.fault c.in-Err.ensures.bad_journal c.refuse-status.ensures.bytes
+      _ c.in-Err.ensures.unchanged refl refl refl refl c.new.ensures,
+  still_settled _ _ before told _ tells c.in-Err.ensures.unchanged settled,
+)
 
 pub returns-in-Err-clause-status : goal.returns-in-Err-clause-status
 returns-in-Err-clause-status g c =
@@ -28,9 +37,22 @@ returns-in-Err-clause-good g c = λ tells before settled. never_bad g.B.Bank.tel
 -- no memory was found to read a line
 pub returns-in_default-clause-outcome : goal.returns-in_default-clause-outcome
 returns-in_default-clause-outcome g c = λ told tells before settled.
-    inr (refused_outcome _ _ told g.B.Bank.tells (g.B.Bank.view c.args.bank) (g.B.Bank.view c.hand_back.result.bank) before _ c.hand_back.result.status tells
-    (λ t. subst (λ (b : g.row.B.Denot). OnlyRead (g.B.Bank.view c.args.bank) (g.B.Bank.view b)) (sym c.hand_back.ensures.bank) (c.in-Ok.ensures.unchanged t)) settled refl refl refl refl
-    (c.hand_back.ensures.marks ∙ c.new-2.ensures.items) (inr (inl (c.hand_back.ensures.status, Appends-nil (g.O.Sink.written c.args.output.now)))))
+    let read : IsTrue g.B.Bank.tells → OnlyRead (g.B.Bank.view c.args.bank) (g.B.Bank.view c.hand_back.result.bank) =
+    λ t. subst (λ (b : g.row.B.Denot). OnlyRead (g.B.Bank.view c.args.bank) (g.B.Bank.view b)) (sym c.hand_back.ensures.bank) (c.in-Ok.ensures.unchanged t) in inr (
+      record {
+        unread = refl;
+        no_read_failed = refl;
+        folder_stays = refl;
+        folder_unread = refl;
+        no_marks = c.hand_back.ensures.marks ∙ c.new-2.ensures.items;
+        refusal = inr (inl (c.hand_back.ensures.status, Appends-nil (g.O.Sink.written c.args.output.now)));
+        only_read = read;
+      },
+      still_settled _ _ before told _ tells read settled,
+    )
+
+pub returns-in_default-clause-spared : goal.returns-in_default-clause-spared
+returns-in_default-clause-spared g c = λ tells place bad. absurd (not_bad_journal journal_bytes _ (c.in-Ok.ensures.journal tells).0 place (c.in-Ok.ensures.journal tells).1 bad)
 
 pub returns-in_default-clause-status : goal.returns-in_default-clause-status
 returns-in_default-clause-status g c = by_memory g.B.Bank.tells _ c.args.budget _ _ c.hand_back.result.status c.hand_back.ensures.status
@@ -41,8 +63,8 @@ returns-in_default-clause-good g c = λ tells before settled is. absurd (omega (
 -- the store was opened, and a session followed
 pub returns-clause-outcome : goal.returns-clause-outcome
 returns-clause-outcome g c = λ told tells before settled.
-    inl (handed told g.B.Bank.faults g.B.Bank.view _ _ _ _ _ _ _ _ _ _ _ _ c.args.bank c.in-Ok.engine c.converse-ending.new.session.engine before
-    (c.in-Ok.ensures.stands told tells before settled) (λ t. c.in-Ok.ensures.unchanged (tells t)) settled (λ t. g.met.B.Bank.sound _ (tells t)) c.in-Ok.ensures.later
+    inl (handed told g.B.Bank.faults g.B.Bank.journal_faults g.B.Bank.last_fault g.B.Bank.view _ _ _ _ _ _ _ _ _ _ _ _ c.args.bank c.in-Ok.engine c.converse-ending.new.session.engine before
+    (c.in-Ok.ensures.stands told tells before settled) (λ t. c.in-Ok.ensures.unchanged (tells t)) settled (λ t. g.met.B.Bank.sound _ (tells t)) c.in-Ok.ensures.later c.in-Ok.ensures.journal_later
     _ _ _ c.in-Ok.engine.clock _ _ _ _ _ c.in-Ok.ensures.size c.converse-ending.ensures.size refl
     (c.converse-ending.ensures.passes told tells) (c.converse-ending.ensures.session told tells)
     c.in-Ok-new.ensures.whole_budget c.hand_back-2.ensures.bank c.hand_back-2.ensures.marks
@@ -50,8 +72,8 @@ returns-clause-outcome g c = λ told tells before settled.
 
 pub returns-clause-status : goal.returns-clause-status
 returns-clause-status g c = answered_status false c.args.budget _ _ _ _ [] _ _ g.B.Bank.tells _ c.in-Ok.ensures.journal
-    (handed false g.B.Bank.faults g.B.Bank.view _ _ _ _ _ _ _ _ _ _ _ _ c.args.bank c.in-Ok.engine c.converse-ending.new.session.engine []
-    (c.in-Ok.ensures.stands false no_tells [] no_tells) no_tells no_tells no_tells c.in-Ok.ensures.later
+    (handed false g.B.Bank.faults g.B.Bank.journal_faults g.B.Bank.last_fault g.B.Bank.view _ _ _ _ _ _ _ _ _ _ _ _ c.args.bank c.in-Ok.engine c.converse-ending.new.session.engine []
+    (c.in-Ok.ensures.stands false no_tells [] no_tells) no_tells no_tells no_tells c.in-Ok.ensures.later c.in-Ok.ensures.journal_later
     _ _ _ c.in-Ok.engine.clock _ _ _ _ _ c.in-Ok.ensures.size c.converse-ending.ensures.size refl
     (c.converse-ending.ensures.passes false no_tells) (c.converse-ending.ensures.session false no_tells)
     c.in-Ok-new.ensures.whole_budget c.hand_back-2.ensures.bank c.hand_back-2.ensures.marks
@@ -59,3 +81,7 @@ returns-clause-status g c = answered_status false c.args.budget _ _ _ _ [] _ _ g
 
 pub returns-clause-good : goal.returns-clause-good
 returns-clause-good g c = λ tells before settled. never_bad g.B.Bank.tells (g.B.Bank.view c.args.bank) c.args.budget _ _ _ before (returns-clause-status g c) tells settled
+
+-- a bad journal shuts the store
+pub returns-clause-spared : goal.returns-clause-spared
+returns-clause-spared g c = λ tells place bad. absurd (not_bad_journal journal_bytes _ (c.in-Ok.ensures.journal tells).0 place (c.in-Ok.ensures.journal tells).1 bad)

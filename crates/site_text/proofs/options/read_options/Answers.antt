@@ -1,6 +1,6 @@
 use Rattle.std.proofs.Common.{sym, ◌∙◌, refl}
-use Rattle.site_text.specs.Options.{options_of}
-use Rattle.site_text.proofs.OptionSteps.{goes, wrong_given, wrong_option, smaller}
+use Rattle.site_text.specs.OptionSteps.{options_of}
+use Rattle.site_text.proofs.OptionLoop.{goes, wrong_given, wrong_option, smaller}
 use Rattle.site_text.proofs.options.read_options.Goals as goal
 
 pub loop-field-smaller : goal.loop-field-smaller

@@ -1,5 +1,5 @@
 use Rattle.std.proofs.Common.{◌≡◌, length}
-use Rattle.site_text.specs.Options.{options_of}
+use Rattle.site_text.specs.OptionSteps.{options_of}
 use Rattle.site_text.proofs.options.read_options.Given as goal
 
 abbrev pub invariant-loop-field : goal.invariant-loop-field

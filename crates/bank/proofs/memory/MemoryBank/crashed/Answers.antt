@@ -1,3 +1,4 @@
+use Rattle.bank.proofs.Anew.{reads_as_began, leaves_what_it_reads}
 use Rattle.bank.proofs.Crashes.{left_as_picked, left_is_image, left_since}
 use Rattle.bank.proofs.memory.MemoryBank.crashed.Goals as goal
 
@@ -13,3 +14,9 @@ returns-clause-picked c =
 
 pub returns-clause-left : goal.returns-clause-left
 returns-clause-left c = λ t le. left_since c.args.self.now c.args.moment t _ le (returns-clause-image c)
+
+pub returns-clause-content : goal.returns-clause-content
+returns-clause-content c = reads_as_began _ _ c.new.ensures
+
+pub returns-clause-only : goal.returns-clause-only
+returns-clause-only c = leaves_what_it_reads _ _ c.new.ensures

@@ -4,9 +4,8 @@ use Rattle.journal.specs.Records.{AllHold, IsBeforeOrAfter}
 use Rattle.journal.specs.State.{JournalState}
 use Rattle.bank.specs.View.{LeavesOnly, Wrote}
 use Rattle.records.specs.declared.step.Step.{Step}
-use Rattle.site_history.specs.Histories.{after}
+use Rattle.site_history.specs.Histories.{after, written_forms}
 use Rattle.site_history.specs.Steps.{fields_after, IsLegal}
-use Rattle.site_history.specs.Images.{written_forms}
 use Rattle.site_state.specs.Keeps.{Keeps}
 use Rattle.engine.proofs.Committing.{at_end, count_is, keeps_now, pinned_now, made_moves, owed_moves}
 use Rattle.engine.proofs.kept.Engine.commit.Goals as goal

@@ -4,8 +4,7 @@ use Rattle.bank.proofs.Readings.{nothing_read}
 use Rattle.journal.specs.State.{JournalState}
 use Rattle.configuration.specs.declared.read.ConfigurationError.{ConfigurationError}
 use Rattle.configuration.specs.declared.read.FileRefusal.{FileRefusal}
-use Rattle.configuration.specs.Readings.{refusal_of}
-use Rattle.configuration.specs.Says.{TellsRefusal}
+use Rattle.configuration.specs.ConfigurationSteps.{refusal_of, TellsRefusal}
 use Rattle.records.specs.declared.event.Event.TheVariants.{Configure as ConfigureEvent}
 use Rattle.records.specs.declared.reply.Reply.TheVariants.{Refused, Done}
 use Rattle.records.specs.Written.{written}

@@ -1,4 +1,4 @@
-use Rattle.engine.proofs.Serving.{event_at_rest, event_reopened, event_refused}
+use Rattle.engine.proofs.Serving.{event_at_rest, event_reopened, event_refused, asked_told}
 use Rattle.engine.proofs.kept.Engine.event.Goals as goal
 
 pub returns-in-Ok-clause-turn : goal.returns-in-Ok-clause-turn
@@ -21,3 +21,18 @@ returns-else-self-clause-turn g c = λ told tells w s.
 
 pub returns-else-self-clause-bad_journal : goal.returns-else-self-clause-bad_journal
 returns-else-self-clause-bad_journal g c = λ tells. c.serve_at-else-self.ensures.journal c.args.self.now.journal.size ((g.B.Bank.view c.serve_at-else-self.new.self.bank).content 0)
+
+pub returns-in-Ok-clause-wrong_file : goal.returns-in-Ok-clause-wrong_file
+returns-in-Ok-clause-wrong_file g c = λ told tells w s texts is.
+    let turn = returns-in-Ok-clause-turn g c told tells w s in
+    asked_told c.args.self.now.journal.size told w c.args.event.now texts c.args.now _ ((g.B.Bank.view c.args.self.now.bank).content 0) _ turn.0 is turn.1
+
+pub returns-in-Err-clause-wrong_file : goal.returns-in-Err-clause-wrong_file
+returns-in-Err-clause-wrong_file g c = λ told tells w s texts is.
+    let turn = returns-in-Err-clause-turn g c told tells w s in
+    asked_told c.args.self.now.journal.size told w c.args.event.now texts c.args.now _ ((g.B.Bank.view c.args.self.now.bank).content 0) _ turn.0 is turn.1
+
+pub returns-else-self-clause-wrong_file : goal.returns-else-self-clause-wrong_file
+returns-else-self-clause-wrong_file g c = λ told tells w s texts is.
+    let turn = returns-else-self-clause-turn g c told tells w s in
+    asked_told c.args.self.now.journal.size told w c.args.event.now texts c.args.now _ ((g.B.Bank.view c.args.self.now.bank).content 0) _ turn.0 is turn.1

@@ -1,6 +1,6 @@
 use Rattle.std.proofs.Common.{sym, subst}
 use Rattle.records.specs.declared.file.SiteTexts.{SiteTexts}
-use Rattle.configuration.specs.Readings.{AreWithin}
+use Rattle.configuration.specs.ConfigurationRules.{AreWithin}
 use Rattle.site_history.proofs.StepRanges.{configured-range}
 use Rattle.engine.proofs.kept.Engine.prepare_configuration.Goals as goal
 

@@ -1,5 +1,5 @@
 use Rattle.std.proofs.Common.{◌≡◌, ℕ, List, true, sym, subst}
-use Rattle.records.specs.Paths.{is_legal_path, is_legal_name}
+use Rattle.base.specs.Paths.{is_legal_path, is_legal_name}
 use Rattle.site_history.proofs.StepRanges.{put_in_range, put_short}
 use Rattle.engine.proofs.kept.Engine.prepare_put.Goals as goal
 

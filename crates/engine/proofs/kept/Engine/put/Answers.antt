@@ -66,7 +66,7 @@ returns-in_default-store-clause-turn g c = λ told tells history stands.
     let wrote = λ (t : IsTrue told). subst (λ (b : g.row.B.Denot). WroteInside 1 (in_blocks_of (taking told g.B.Bank.view c.args.self.now history stands c.args.path.now c.args.owner.now c.args.group.now c.args.bytes.now rule)) (g.B.Bank.view b) (g.B.Bank.view c.store.new.bank)) u.bank
     (subst (λ (l : List Run). WroteInside 1 (in_blocks_of l) (g.B.Bank.view c.prepare_put.new.self.bank) (g.B.Bank.view c.store.new.bank)) runs (c.store.ensures.wrote (tells t))) in (
       at history c.args.self.now.clock,
-      stays-turn c.args.self.now.journal.size told history (PutEvent c.args.path.now c.args.owner.now c.args.group.now c.args.bytes.now) c.args.self.now.clock _ (λ journal. absurd (omega (arith, journal, c.in_default-store.ensures.area))),
+      stays-turn c.args.self.now.journal.size told history (PutEvent c.args.path.now c.args.owner.now c.args.group.now c.args.bytes.now) c.args.self.now.clock _ (λ journal. absurd (omega (arith, journal, c.in_default-store.ensures.counted.area))),
       put_stays told g.B.Bank.view c.args.self.now history stands c.args.path.now c.args.owner.now c.args.group.now c.args.bytes.now rule _ u.keeps u.journal u.steps u.clock u.due (λ t. g.met.B.Bank.sound _ (tells t)) wrote,
     )
 

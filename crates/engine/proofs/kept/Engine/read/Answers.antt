@@ -96,6 +96,6 @@ returns-in-Err-clause-turn g c = λ told tells history stands.
 pub returns-in_default-load_all-clause-turn : goal.returns-in_default-load_all-clause-turn
 returns-in_default-load_all-clause-turn g c = λ told tells history stands. (
   at history c.args.self.now.clock,
-  stays-turn c.args.self.now.journal.size told history (ReadEvent c.args.path.now c.args.upto) c.args.self.now.clock _ (λ journal. absurd (omega (arith, journal, c.in_default-load_all.ensures.area))),
+  stays-turn c.args.self.now.journal.size told history (ReadEvent c.args.path.now c.args.upto) c.args.self.now.clock _ (λ journal. absurd (omega (arith, journal, c.in_default-load_all.ensures.counted.area))),
   stays_here told g.B.Bank.view c.args.self.now _ (at history c.args.self.now.clock) stands (λ fields keeps. keeps) refl refl refl refl (λ t. c.load_all.ensures.unchanged (tells t)),
 )

@@ -42,7 +42,7 @@ returns-in-None c = λ steps history few keeps legal.
     let found = asked c.args.put.path _ c.args.self.now.files.list _ None c.as_slice-2.ensures c.find.ensures c.in-None.is in
     record {
       files = new_list (length steps) (after steps) (orderly steps history) c.args.self.now keeps c.args.moment (put_of c.args.put) legal found c.new_file.result _ c.new_file.ensures
-          (c.push.ensures (new_above (length steps) (after steps) (orderly steps history) c.args.self.now keeps c.args.moment (put_of c.args.put) legal found c.new_file.result c.new_file.ensures));
+          (c.push.ensures.added (new_above (length steps) (after steps) (orderly steps history) c.args.self.now keeps c.args.moment (put_of c.args.put) legal found c.new_file.result c.new_file.ensures));
       next_inode = new_next (length steps) (after steps) (orderly steps history) c.args.self.now keeps c.args.moment (put_of c.args.put) legal found _ c.saturating_add-self.ensures;
       moment = refl;
       configuration = keeps.configuration;

@@ -1,7 +1,0 @@
-use Rattle.std.proofs.Common.{◌≡◌, take}
-use Rattle.std.specs.Prelude.{reverse}
-use Rattle.archiver_lines.specs.Told.{copies_of}
-use Rattle.archiver_lines.proofs.plain.told.copies_of.Given as goal
-
-abbrev pub invariant-loop-reading : goal.invariant-loop-reading
-invariant-loop-reading l = l.copies ≡ copies_of (reverse (take l.reading-index l.said))

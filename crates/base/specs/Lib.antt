@@ -1,0 +1,3 @@
+-- definitions that every crate may cite
+pub mod Causes
+pub mod Paths

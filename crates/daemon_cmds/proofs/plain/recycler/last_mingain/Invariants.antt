@@ -1,6 +1,0 @@
-use Rattle.std.proofs.Common.{◌≡◌, drop}
-use Rattle.daemon_cmds.specs.RecyclerTold.{last_given, mingain_in}
-use Rattle.daemon_cmds.proofs.plain.recycler.last_mingain.Given as goal
-
-abbrev pub invariant-loop-option : goal.invariant-loop-option
-invariant-loop-option l = last_given mingain_in l.mingain (drop l.option-index l.options) ≡ last_given mingain_in l.fn.before l.options

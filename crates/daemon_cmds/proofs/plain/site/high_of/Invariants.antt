@@ -1,7 +1,0 @@
-use Rattle.std.proofs.Common.{◌≡◌, take}
-use Rattle.std.specs.Prelude.{reverse}
-use Rattle.daemon_cmds.specs.SiteTold.{high_of}
-use Rattle.daemon_cmds.proofs.plain.site.high_of.Given as goal
-
-abbrev pub invariant-loop-reading : goal.invariant-loop-reading
-invariant-loop-reading l = l.high ≡ high_of (reverse (take l.reading-index l.said))

@@ -1,4 +1,0 @@
-pub mod CommandFiles
-pub mod Site
-pub mod World
-pub mod Stage
