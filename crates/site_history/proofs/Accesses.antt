@@ -4,18 +4,19 @@ use Rattle.std.proofs.Common.{◌≡◌, ℕ, ◌≤◌, ◌<◌, ◌^◌, lengt
 use Rattle.std.proofs.lemmas.List.{length-take}
 use Rattle.site_types.specs.declared.file.FileRec.{FileRec}
 use Rattle.site_types.specs.declared.step.StepKind.TheVariants.{Accessed, Removed}
+use Rattle.site_history.specs.Terms.{Terms}
 use Rattle.site_history.specs.Site.{Site, bytes_of}
 use Rattle.site_history.specs.Steps.{IsLegal, HasBytes}
 use Rattle.site_history.specs.Answers.{bare_step}
 use Rattle.site_history.proofs.SiteLaws.{IsFileOf}
 use Rattle.site_history.proofs.StepRanges.{accessed_in_range, removed_in_range}
 
-module _ (count : ℕ) (site : Site) (file : FileRec) (of : IsFileOf count site file) where
+module _ (terms : Terms) (count : ℕ) (site : Site) (file : FileRec) (of : IsFileOf count site file) where
   module _ (moment : ℕ) (later : site.fields.moment ≤ moment) (range : moment < 2 ^ 40) where
-    pub accessed_legal : IsLegal site.fields (bare_step moment (Accessed file.inode)).step
+    pub accessed_legal : IsLegal terms site.fields (bare_step moment (Accessed file.inode)).step
     accessed_legal = (accessed_in_range moment file.inode range of.inode, later, of.there)
 
-    pub removed_legal : IsLegal site.fields (bare_step moment (Removed file.inode)).step
+    pub removed_legal : IsLegal terms site.fields (bare_step moment (Removed file.inode)).step
     removed_legal = (removed_in_range moment file.inode range of.inode, later, of.there)
 
   -- the first bytes of the file, as many as are asked for and are there

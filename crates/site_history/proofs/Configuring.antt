@@ -17,6 +17,7 @@ use Rattle.configuration.specs.ConfigurationRules.{AreWithin}
 use Rattle.configuration.specs.ConfigurationSteps.{are_within, refusal_of, blocks_of}
 use Rattle.configuration.proofs.Laws.{within-all, all-within}
 use Rattle.cache_space.specs.Space.{taken_by}
+use Rattle.site_history.specs.Terms.{Terms}
 use Rattle.site_history.specs.Site.{Fields, Site, held_runs, cache_blocks}
 use Rattle.site_history.specs.Steps.{IsLegalConfiguration, IsLegal, HasBytes, configured_effect}
 use Rattle.site_history.specs.Answers.{bare_step, conf_refused, has_files, configure_refusal}
@@ -68,9 +69,9 @@ module _ (fields : Fields) (texts : SiteTexts) where
       record { no_file = nil_from_length fields.files (omega (arith, ltb-false 0 (length fields.files) rules.0)); within = within-all texts rules.1; read = rules.2 }
 
 -- the step may come
-pub configure-legal : (site : Site) (moment : ℕ) (texts : SiteTexts) → site.fields.files ≡ [] → AreWithin texts → refusal_of texts ≡ None → site.fields.moment ≤ moment → moment < 2 ^ 40
-    → IsLegal site.fields (bare_step moment (Configured texts)).step
-configure-legal site moment texts none within read later range =
+pub configure-legal : (terms : Terms) (site : Site) (moment : ℕ) (texts : SiteTexts) → site.fields.files ≡ [] → AreWithin texts → refusal_of texts ≡ None → site.fields.moment ≤ moment → moment < 2 ^ 40
+    → IsLegal terms site.fields (bare_step moment (Configured texts)).step
+configure-legal terms site moment texts none within read later range =
     (configured-range moment texts range within, later, record { no_file = none; within = within; read = read })
 
 -- it has no bytes

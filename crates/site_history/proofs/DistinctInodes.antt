@@ -5,6 +5,7 @@ use Rattle.std.proofs.lemmas.Bool.{cases_eq, eq-eqb, ne_eqb}
 use Rattle.site_types.specs.declared.file.FileRec.{FileRec}
 use Rattle.site_types.specs.declared.step.StepKind.{StepKind}
 use Rattle.site_types.specs.declared.step.StepKind.TheVariants.{Put, Accessed, Removed}
+use Rattle.site_history.specs.Terms.{Terms}
 use Rattle.site_history.specs.Site.{Fields, Site, file_at, with_file}
 use Rattle.site_history.specs.Steps.{HistoryStep, stored_file, accessed_by, without_file, fields_after}
 use Rattle.site_history.specs.Histories.{after, IsHistory}
@@ -72,13 +73,13 @@ distinct_without inode (file ∷ files) h = by_test (not (file.inode == inode)) 
     by_test true rest = (none_without inode file.inode files h.0, rest)
     by_test false rest = rest
 
-distinct_effect : (fields : Fields) (moment : ℕ) (kind : StepKind) → AreDistinct fields.files → AreDistinct (fields_after (record { moment = moment; kind = kind }) fields).files
-distinct_effect fields moment (Put put) h = distinct_with (stored_file (file_at put.path fields.files) moment put) fields.files h
-distinct_effect fields moment (Accessed inode) h = distinct_accessed moment inode fields.files h
-distinct_effect fields moment (Removed inode) h = distinct_without inode fields.files h
-distinct_effect fields moment _ h = h
+distinct_effect : (terms : Terms) (fields : Fields) (moment : ℕ) (kind : StepKind) → AreDistinct fields.files → AreDistinct (fields_after terms (record { moment = moment; kind = kind }) fields).files
+distinct_effect terms fields moment (Put put) h = distinct_with (stored_file (file_at put.path fields.files) moment put) fields.files h
+distinct_effect terms fields moment (Accessed inode) h = distinct_accessed moment inode fields.files h
+distinct_effect terms fields moment (Removed inode) h = distinct_without inode fields.files h
+distinct_effect terms fields moment _ h = h
 
 -- After a history no two files have one inode.
-pub distinct_inodes : (steps : List HistoryStep) → IsHistory steps → AreDistinct (after steps).fields.files
-distinct_inodes steps h = history-keeps (λ (site : Site). AreDistinct site.fields.files) tt
-    (λ site made distinct legal. distinct_effect site.fields made.step.moment made.step.kind distinct) steps h
+pub distinct_inodes : (terms : Terms) (steps : List HistoryStep) → IsHistory terms steps → AreDistinct (after terms steps).fields.files
+distinct_inodes terms steps h = history-keeps terms (λ (site : Site). AreDistinct site.fields.files) tt
+    (λ site made distinct legal. distinct_effect terms site.fields made.step.moment made.step.kind distinct) steps h

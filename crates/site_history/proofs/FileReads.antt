@@ -11,6 +11,7 @@ use Rattle.bank.proofs.Spans.{Stands-front, Stands-only}
 use Rattle.site_types.specs.declared.file.FileRec.{FileRec}
 use Rattle.site_types.specs.declared.file.Run.{Run}
 use Rattle.cache_space.specs.Space.{blocks_in}
+use Rattle.site_history.specs.Terms.{Terms}
 use Rattle.site_history.specs.Site.{FileBytes, bytes_of}
 use Rattle.site_history.specs.Steps.{HistoryStep}
 use Rattle.site_history.specs.Histories.{after}
@@ -37,13 +38,13 @@ file_stands c contents (file ∷ files) (suc i) d lt h =
     file_stands c contents files i d (omega (arith, lt)) (image_back c (extents_of contents file) (flat_map (extents_of contents) files) h)
 
 -- A store that is pinned to a history gives the bytes of each of its files, which is whole, at the file's runs.
-pub pinned_file : (size : ℕ) (v : View) (steps : List HistoryStep) (i : ℕ) (d : FileRec) → IsSound v → IsPinned size v steps → i < length (after steps).fields.files
-    → length (bytes_of (after steps).contents (get_or (after steps).fields.files i d).inode) ≤ (get_or (after steps).fields.files i d).cached
-    → AllStand v.content (extents_over (get_or (after steps).fields.files i d).runs (bytes_of (after steps).contents (get_or (after steps).fields.files i d).inode))
-pinned_file size v steps i d sound pinned lt whole =
-    let file = get_or (after steps).fields.files i d in
-    subst (λ (l : List ℕ). AllStand v.content (extents_over file.runs l)) (take_all file.cached (bytes_of (after steps).contents file.inode) whole)
-    (file_stands v.content (after steps).contents (after steps).fields.files i d lt (stand_image v v.content (extents (after steps)) pinned.bytes sound.reads_as_image))
+pub pinned_file : (terms : Terms) (v : View) (steps : List HistoryStep) (i : ℕ) (d : FileRec) → IsSound v → IsPinned terms v steps → i < length (after terms steps).fields.files
+    → length (bytes_of (after terms steps).contents (get_or (after terms steps).fields.files i d).inode) ≤ (get_or (after terms steps).fields.files i d).cached
+    → AllStand v.content (extents_over (get_or (after terms steps).fields.files i d).runs (bytes_of (after terms steps).contents (get_or (after terms steps).fields.files i d).inode))
+pinned_file terms v steps i d sound pinned lt whole =
+    let file = get_or (after terms steps).fields.files i d in
+    subst (λ (l : List ℕ). AllStand v.content (extents_over file.runs l)) (take_all file.cached (bytes_of (after terms steps).contents file.inode) whole)
+    (file_stands v.content (after terms steps).contents (after terms steps).fields.files i d lt (stand_image v v.content (extents (after terms steps)) pinned.bytes sound.reads_as_image))
 
 -- The piece of each run stands at the run.
 pub piece_stands : (c : Image) (runs : List Run) (i : ℕ) (d : Run) (bytes : List ℕ) → i < length runs → AllStand c (extents_over runs bytes)

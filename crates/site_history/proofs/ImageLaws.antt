@@ -5,6 +5,7 @@ use Rattle.bank.specs.Content.{Content, Image, Stands, Same}
 use Rattle.bank.specs.View.{View, IsImage, IsSound, OnlyContent}
 use Rattle.bank.proofs.Spans.{Stands-same}
 use Rattle.journal.proofs.Held.{agreeing_holds, fresh_holds}
+use Rattle.site_history.specs.Terms.{Terms}
 use Rattle.site_history.specs.Steps.{HistoryStep}
 use Rattle.site_history.specs.Histories.{after, IsHistory, written_forms}
 use Rattle.site_history.specs.Images.{Extent, extents, AllStand, Reads, SameAt, AgreeingReadAlike, IsSettled}
@@ -41,18 +42,18 @@ images_stand v (e ∷ es) sound h = (
 )
 
 -- Each image of a store that is pinned to a history reads as that history.
-pub image_reads : (size : ℕ) (v : View) (c : Image) (steps : List HistoryStep) → IsHistory steps → IsPinned size v steps → IsImage v c → Reads size c steps
-image_reads size v c steps history h image = record {
+pub image_reads : (terms : Terms) (v : View) (c : Image) (steps : List HistoryStep) → IsHistory terms steps → IsPinned terms v steps → IsImage v c → Reads terms c steps
+image_reads terms v c steps history h image = record {
   history = history;
   records = h.records.each (c 0) (image 0);
-  bytes = stand_image v c (extents (after steps)) h.bytes image;
+  bytes = stand_image v c (extents (after terms steps)) h.bytes image;
 }
 
 -- A store is pinned to a history if each of its images reads as that history.
-pub pinned_by_images : (size : ℕ) (v : View) (steps : List HistoryStep) → IsSound v → ((c : Image) → IsImage v c → Reads size c steps) → IsPinned size v steps
-pinned_by_images size v steps sound reads = record {
+pub pinned_by_images : (terms : Terms) (v : View) (steps : List HistoryStep) → IsSound v → ((c : Image) → IsImage v c → Reads terms c steps) → IsPinned terms v steps
+pinned_by_images terms v steps sound reads = record {
   records = record { each = λ c left. (reads (with_area v 0 c) (with_area_is_image v 0 c sound left)).records };
-  bytes = images_stand v (extents (after steps)) sound (λ c image. (reads c image).bytes);
+  bytes = images_stand v (extents (after terms steps)) sound (λ c image. (reads c image).bytes);
 }
 
 -- Bytes stand where the same bytes stand.
@@ -65,24 +66,24 @@ same_stand c d (e ∷ es) same h = (
 )
 
 -- Two images that agree in the journal, below its size, and wherever a site's bytes lie read as the same histories.
-pub agreeing_below : (size : ℕ) (c d : Image) (steps : List HistoryStep) → ((k : ℕ) → k < size → d 0 k ≡ c 0 k) → SameAt c d (extents (after steps)) → Reads size c steps → Reads size d steps
-agreeing_below size c d steps journal files h = record {
+pub agreeing_below : (terms : Terms) (c d : Image) (steps : List HistoryStep) → ((k : ℕ) → k < terms.size → d 0 k ≡ c 0 k) → SameAt c d (extents (after terms steps)) → Reads terms c steps → Reads terms d steps
+agreeing_below terms c d steps journal files h = record {
   history = h.history;
-  records = agreeing_holds (written_forms steps) size (c 0) (d 0) journal h.records;
-  bytes = same_stand c d (extents (after steps)) files h.bytes;
+  records = agreeing_holds (written_forms steps) terms.size (c 0) (d 0) journal h.records;
+  bytes = same_stand c d (extents (after terms steps)) files h.bytes;
 }
 
 -- So they do where they agree in all of the journal's area.
-pub agreeing_read : AgreeingReadAlike
-agreeing_read size c d steps agree h = agreeing_below size c d steps agree.0 agree.1 h
+pub agreeing_read : (terms : Terms) → AgreeingReadAlike terms
+agreeing_read terms terms.size c d steps agree h = agreeing_below terms c d steps agree.0 agree.1 h
 
 -- Images with the same bytes everywhere are the same at each extent, and read as the same histories.
 pub same_everywhere : (c d : Image) (es : List Extent) → ((a : ℕ) → Same (c a) (d a)) → SameAt c d es
 same_everywhere c d [] same = tt
 same_everywhere c d (e ∷ es) same = ((λ k lt. sym (same e.area (e.place + k))), same_everywhere c d es same)
 
-pub same_read : (size : ℕ) (c d : Image) (steps : List HistoryStep) → ((a : ℕ) → Same (c a) (d a)) → Reads size c steps → Reads size d steps
-same_read size c d steps same reads = agreeing_read size c d steps (λ k lt. sym (same 0 k), same_everywhere c d (extents (after steps)) same) reads
+pub same_read : (terms : Terms) (c d : Image) (steps : List HistoryStep) → ((a : ℕ) → Same (c a) (d a)) → Reads terms c steps → Reads terms d steps
+same_read terms c d steps same reads = agreeing_read terms terms.size c d steps (λ k lt. sym (same 0 k), same_everywhere c d (extents (after terms steps)) same) reads
 
 -- What stands in whatever a crash leaves still does where it leaves nothing else.
 pub stand_in_fewer : (u v : View) (es : List Extent) → ((a : ℕ) (c : Content) → v.may_leave a c → u.may_leave a c) → StandInAll u es → StandInAll v es
@@ -90,19 +91,19 @@ stand_in_fewer u v [] fewer h = tt
 stand_in_fewer u v (e ∷ es) fewer h = ((λ c left. h.0 c (fewer e.area c left)), stand_in_fewer u v es fewer h.1)
 
 -- An image whose journal begins with a closed gate reads as the history of no step.
-pub fresh_reads : (size : ℕ) (c : Image) → c 0 0 ≢ 1 → Reads size c []
-fresh_reads size c shut = record { history = tt; records = fresh_holds (c 0) size shut; bytes = tt }
+pub fresh_reads : (terms : Terms) (c : Image) → c 0 0 ≢ 1 → Reads terms c []
+fresh_reads terms c shut = record { history = tt; records = fresh_holds (c 0) terms.size shut; bytes = tt }
 
 -- A store of which each image does is settled for it.
-pub fresh_settled : (size : ℕ) (v : View) → IsSound v → ((c : Image) → IsImage v c → c 0 0 ≢ 1) → IsSettled size v []
-fresh_settled size v sound shut = record {
-  now = fresh_reads size v.content (shut v.content sound.reads_as_image);
-  each = λ c image. inl (fresh_reads size c (shut c image));
+pub fresh_settled : (terms : Terms) (v : View) → IsSound v → ((c : Image) → IsImage v c → c 0 0 ≢ 1) → IsSettled terms v []
+fresh_settled terms v sound shut = record {
+  now = fresh_reads terms v.content (shut v.content sound.reads_as_image);
+  each = λ c image. inl (fresh_reads terms c (shut c image));
 }
 
 -- A store of which a crash leaves what it reads is settled for the history as which it reads.
-pub crashed_settled : (size : ℕ) (v : View) (steps : List HistoryStep) → ((area : ℕ) → OnlyContent area v) → Reads size v.content steps → IsSettled size v steps
-crashed_settled size v steps only reads = record {
+pub crashed_settled : (terms : Terms) (v : View) (steps : List HistoryStep) → ((area : ℕ) → OnlyContent area v) → Reads terms v.content steps → IsSettled terms v steps
+crashed_settled terms v steps only reads = record {
   now = reads;
-  each = λ c image. inl (same_read size v.content c steps (λ a. only a (c a) (image a)) reads);
+  each = λ c image. inl (same_read terms v.content c steps (λ a. only a (c a) (image a)) reads);
 }

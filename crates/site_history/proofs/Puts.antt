@@ -10,6 +10,7 @@ use Rattle.base.specs.Paths.{is_legal_path, is_legal_name}
 use Rattle.site_types.specs.Ranges.{IsInode}
 use Rattle.cache_space.specs.Blocks.{blocks_for, free_blocks, lowest_runs}
 use Rattle.cache_space.proofs.LowestRuns.{lowest_runs-maximal, lowest_runs-free, blocks_in-lowest_runs, lowest_runs-there}
+use Rattle.site_history.specs.Terms.{Terms}
 use Rattle.site_history.specs.Site.{Fields, Site, file_at, held_runs, cache_blocks}
 use Rattle.site_history.specs.Steps.{IsLegalPut, IsLegal, HasBytes, inode_for}
 use Rattle.site_history.specs.Answers.{put_rule, put_for, put_made, put_step, is_full, lacks_space}
@@ -81,13 +82,13 @@ module _ (fields : Fields) (path owner group : List ℕ) (size : ℕ) where
   }
 
 -- in a site after some history
-module _ (count : ℕ) (site : Site) (orderly : IsOrderly count site) (path owner group : List ℕ) (size : ℕ) (rule : put_rule site.fields path owner group size ≡ None) where
+module _ (terms : Terms) (count : ℕ) (site : Site) (orderly : IsOrderly count site) (path owner group : List ℕ) (size : ℕ) (rule : put_rule site.fields path owner group size ≡ None) where
   -- its inode is a number from 1 to 4,294,967,294
   pub put_inode : IsInode (inode_for site.fields path)
   put_inode = inode_by count site path (file_at path site.fields.files) orderly refl (admitted site.fields path owner group size rule).fits
 
   -- its step may come
-  pub put_legal : (moment : ℕ) → site.fields.moment ≤ moment → moment < 2 ^ 40 → IsLegal site.fields (put_made site.fields moment path owner group size)
+  pub put_legal : (moment : ℕ) → site.fields.moment ≤ moment → moment < 2 ^ 40 → IsLegal terms site.fields (put_made site.fields moment path owner group size)
   put_legal moment later range =
       let a = admitted site.fields path owner group size rule in (
         put_in_range (put_for site.fields path owner group size) a.small a.legal_path a.legal_owner a.legal_group

@@ -1,4 +1,4 @@
--- What holds of the site after any history: `orderly`. `found-file` says it of the file that a path finds, `there-file` of the
+-- What holds of the site after any history: `after_orderly`. `found-file` says it of the file that a path finds, `there-file` of the
 -- file of an inode that is there, and `placed-file` and `indexed-file` of the file at a place of the list, as code has it.
 use Rattle.std.proofs.Common.{◌≡◌, ℕ, ◌+◌, ◌<◌, ◌≤◌, ◌^◌, List, [], ◌∷◌, ◌++◌, length, get_or, set, map, refl, sym, ◌∙◌, ap, subst, arith, Option, Some, None, length-append}
 use Rattle.std.specs.Prelude.{MatchOption, ◌==◌, find, IsTrue}
@@ -24,6 +24,7 @@ use Rattle.cache_space.specs.Blocks.{blocks_for}
 use Rattle.cache_space.specs.Space.{AreThere, AreDisjoint, AreMaximal, blocks_in}
 use Rattle.cache_space.proofs.HeldBlocks.{AreThere-nil}
 use Rattle.cache_space.proofs.LowestRuns.{AreMaximal-disjoint}
+use Rattle.site_history.specs.Terms.{Terms}
 use Rattle.site_history.specs.Site.{FileBytes, Site, first_site, file_at, held_runs, with_file, with_bytes, bytes_of, cache_blocks}
 use Rattle.site_history.specs.Steps.{HistoryStep, stored_file, put_effect, accessed_by, without_file, without_bytes, configured_effect, effect, IsLegalPut, IsLegal, HasBytes, IsThere}
 use Rattle.site_history.specs.Histories.{after, IsHistory}
@@ -266,18 +267,18 @@ module _ (count : ℕ) (site : Site) (orderly : IsOrderly count site) (later : �
     disjoint = tt;
   })
 
-step_orderly : (count : ℕ) (site : Site) (moment : ℕ) (kind : StepKind) (bytes : List ℕ) → IsOrderly count site
-    → IsLegal site.fields (record { moment = moment; kind = kind }) → HasBytes (record { step = record { moment = moment; kind = kind }; bytes = bytes })
-    → IsOrderly (count + 1) (effect (record { step = record { moment = moment; kind = kind }; bytes = bytes }) site)
-step_orderly count site moment (Put put) bytes orderly legal has =
+step_orderly : (terms : Terms) (count : ℕ) (site : Site) (moment : ℕ) (kind : StepKind) (bytes : List ℕ) → IsOrderly count site
+    → IsLegal terms site.fields (record { moment = moment; kind = kind }) → HasBytes (record { step = record { moment = moment; kind = kind }; bytes = bytes })
+    → IsOrderly (count + 1) (effect terms (record { step = record { moment = moment; kind = kind }; bytes = bytes }) site)
+step_orderly terms count site moment (Put put) bytes orderly legal has =
     put_orderly count site orderly moment legal.1 (ranges (record { moment = moment; kind = Put put }) legal.0).0 put bytes legal.2 has
-step_orderly count site moment (Accessed inode) bytes orderly legal has =
+step_orderly terms count site moment (Accessed inode) bytes orderly legal has =
     accessed_orderly count site orderly moment legal.1 (ranges (record { moment = moment; kind = Accessed inode }) legal.0).0 inode
-step_orderly count site moment (Removed inode) bytes orderly legal has =
+step_orderly terms count site moment (Removed inode) bytes orderly legal has =
     removed_orderly count site orderly moment legal.1 (ranges (record { moment = moment; kind = Removed inode }) legal.0).0 inode legal.2
-step_orderly count site moment (Configured texts) bytes orderly legal has =
+step_orderly terms count site moment (Configured texts) bytes orderly legal has =
     configured_orderly count site orderly moment legal.1 (ranges (record { moment = moment; kind = Configured texts }) legal.0).0 texts legal.2.no_file
-step_orderly count site moment _ bytes orderly legal has = absurd legal.2
+step_orderly terms count site moment _ bytes orderly legal has = absurd legal.2
 
 first_orderly : IsOrderly 0 first_site
 first_orderly = record {
@@ -294,12 +295,12 @@ first_orderly = record {
 }
 
 -- the site after one legal step more
-pub orderly-more : (count : ℕ) (site : Site) (made : HistoryStep) → IsOrderly count site → IsLegal site.fields made.step → HasBytes made → IsOrderly (count + 1) (effect made site)
-orderly-more count site made orderly legal has = step_orderly count site made.step.moment made.step.kind made.bytes orderly legal has
+pub orderly-more : (terms : Terms) (count : ℕ) (site : Site) (made : HistoryStep) → IsOrderly count site → IsLegal terms site.fields made.step → HasBytes made → IsOrderly (count + 1) (effect terms made site)
+orderly-more terms count site made orderly legal has = step_orderly terms count site made.step.moment made.step.kind made.bytes orderly legal has
 
 -- the site after any history is orderly
-pub orderly : (steps : List HistoryStep) → IsHistory steps → IsOrderly (length steps) (after steps)
-orderly steps h = history-counts IsOrderly first_orderly orderly-more steps h
+pub after_orderly : (terms : Terms) (steps : List HistoryStep) → IsHistory terms steps → IsOrderly (length steps) (after terms steps)
+after_orderly terms steps h = history-counts terms IsOrderly first_orderly orderly-more terms steps h
 
 -- what is known of one of a site's files
 pub record IsFileOf (count : ℕ) (site : Site) (file : FileRec) : Type 0 where

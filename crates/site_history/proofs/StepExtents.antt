@@ -9,6 +9,7 @@ use Rattle.site_types.specs.declared.file.FileRec.{FileRec}
 use Rattle.site_types.specs.declared.step.PutStep.{PutStep}
 use Rattle.site_types.specs.declared.step.StepKind.{StepKind}
 use Rattle.site_types.specs.declared.step.StepKind.TheVariants.{Configured, Put, Accessed, Removed}
+use Rattle.site_history.specs.Terms.{Terms}
 use Rattle.site_history.specs.Site.{FileBytes, Site, file_at, with_file, with_bytes, bytes_of}
 use Rattle.site_history.specs.Steps.{HistoryStep, stored_file, inode_for, accessed_by, without_file, without_bytes, put_effect, effect, IsLegal, HasBytes}
 use Rattle.site_history.specs.Images.{Extent, extents_over, extents_of, extents}
@@ -109,13 +110,13 @@ put_stands v moment put bytes site distinct inode long h ready =
     (subst (λ (es : List Extent). StandInAll v es) (sym (stored_extents o moment put bytes long)) ready) h
 
 -- If the bytes of a site stand, and those of a put do, then after the legal step so do those of the site.
-pub effect_stands : (v : View) (made : HistoryStep) (site : Site) → AreDistinct site.fields.files → IsLegal site.fields made.step → HasBytes made
-    → StandInAll v (extents site) → StandInAll v (put_extents made) → StandInAll v (extents (effect made site))
-effect_stands v made site distinct legal bytes h ready = by_kind made.step.kind made.step.moment made.bytes legal bytes ready
+pub effect_stands : (terms : Terms) (v : View) (made : HistoryStep) (site : Site) → AreDistinct site.fields.files → IsLegal terms site.fields made.step → HasBytes made
+    → StandInAll v (extents site) → StandInAll v (put_extents made) → StandInAll v (extents (effect terms made site))
+effect_stands terms v made site distinct legal bytes h ready = by_kind made.step.kind made.step.moment made.bytes legal bytes ready
   where
-    by_kind : (kind : StepKind) (moment : ℕ) (l : List ℕ) → IsLegal site.fields (record { moment = moment; kind = kind })
+    by_kind : (kind : StepKind) (moment : ℕ) (l : List ℕ) → IsLegal terms site.fields (record { moment = moment; kind = kind })
         → HasBytes (record { step = record { moment = moment; kind = kind }; bytes = l }) → StandInAll v (put_extents (record { step = record { moment = moment; kind = kind }; bytes = l }))
-        → StandInAll v (extents (effect (record { step = record { moment = moment; kind = kind }; bytes = l }) site))
+        → StandInAll v (extents (effect terms (record { step = record { moment = moment; kind = kind }; bytes = l }) site))
     by_kind (Put put) moment l legal long ready =
         put_stands v moment put l site distinct legal.2.inode long h ready
     by_kind (Accessed inode) moment l legal long ready = accessed_stands v moment inode site.contents site.fields.files h

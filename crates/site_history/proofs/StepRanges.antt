@@ -20,6 +20,7 @@ use Rattle.site_types.specs.declared.step.StepKind.TheVariants.{Configured, Put,
 use Rattle.configuration.specs.ConfigurationRules.{AreWithin}
 use Rattle.cache_space.specs.Blocks.{blocks_for}
 use Rattle.journal.specs.Records.{IsPayload}
+use Rattle.site_history.specs.Terms.{Terms}
 use Rattle.site_history.specs.Site.{Fields}
 use Rattle.site_history.specs.Steps.{IsLegal}
 use Rattle.site_history.proofs.RunRanges.{maximal-few}
@@ -83,15 +84,15 @@ configured-short moment texts within = omega (arith, within.0, within.1, within.
 pub short-payload : (step : Step) → step_length step ≤ 1048576 → IsPayload (written step)
 short-payload step short = (written_some step, omega (arith, length-written step, short))
 
-legal_short : (fields : Fields) (moment : ℕ) (kind : StepKind) → IsLegal fields (record { moment = moment; kind = kind }) → step_length (record { moment = moment; kind = kind }) ≤ 1048576
-legal_short fields moment (Put put) legal =
+legal_short : (terms : Terms) (fields : Fields) (moment : ℕ) (kind : StepKind) → IsLegal terms fields (record { moment = moment; kind = kind }) → step_length (record { moment = moment; kind = kind }) ≤ 1048576
+legal_short terms fields moment (Put put) legal =
     put_short put legal.2.small legal.2.path legal.2.owner legal.2.group
     (omega (arith, maximal-few put.runs legal.2.maximal, legal.2.blocks)) moment
-legal_short fields moment (Accessed inode) legal = accessed_short moment inode
-legal_short fields moment (Removed inode) legal = removed_short moment inode
-legal_short fields moment (Configured texts) legal = configured-short moment texts legal.2.within
-legal_short fields moment _ legal = absurd legal.2
+legal_short terms fields moment (Accessed inode) legal = accessed_short moment inode
+legal_short terms fields moment (Removed inode) legal = removed_short moment inode
+legal_short terms fields moment (Configured texts) legal = configured-short moment texts legal.2.within
+legal_short terms fields moment _ legal = absurd legal.2
 
 -- a step that may come has a written form that a record takes
-pub legal-payload : (fields : Fields) (step : Step) → IsLegal fields step → IsPayload (written step)
-legal-payload fields step legal = short-payload step (legal_short fields step.moment step.kind legal)
+pub legal-payload : (terms : Terms) (fields : Fields) (step : Step) → IsLegal terms fields step → IsPayload (written step)
+legal-payload terms fields step legal = short-payload step (legal_short terms fields step.moment step.kind legal)

@@ -19,6 +19,7 @@ use Rattle.site_types.specs.declared.step.StepKind.{StepKind}
 use Rattle.site_types.specs.declared.step.StepKind.TheVariants.{Configured, Put, Accessed, Removed}
 use Rattle.step_codec.specs.Written.{written}
 use Rattle.configuration.specs.declared.read.FileRefusal.{FileRefusal}
+use Rattle.site_history.specs.Terms.{Terms}
 use Rattle.site_history.specs.Site.{Site, file_at, bytes_of}
 use Rattle.site_history.specs.Steps.{HistoryStep, IsLegal, inode_for, effect}
 use Rattle.site_history.specs.Histories.{after, journal_length}
@@ -28,79 +29,79 @@ use Rattle.site_history.proofs.HistoryLaws.{after-push}
 
 -- The answers.
 
-module _ (site : Site) (moment : ℕ) (path : List ℕ) where
+module _ (terms : Terms) (site : Site) (moment : ℕ) (path : List ℕ) where
   -- a rule refuses a put
   pub put-refused : (owner group bytes : List ℕ) (rule : Rule) → put_rule site.fields path owner group (length bytes) ≡ Some rule
-      → answer_to site moment (PutEvent path owner group bytes) ≡ refused rule
+      → answer_to terms site moment (PutEvent path owner group bytes) ≡ refused rule
   put-refused owner group bytes rule e = ap (λ (o : Option Rule). put_answer_by o site.fields moment path owner group bytes) e
 
   -- no rule does
   pub put-stored : (owner group bytes : List ℕ) → put_rule site.fields path owner group (length bytes) ≡ None
-      → answer_to site moment (PutEvent path owner group bytes)
+      → answer_to terms site moment (PutEvent path owner group bytes)
       ≡ record { reply = Stored (inode_for site.fields path) (is_none (file_at path site.fields.files)); step = Some (put_step site.fields moment path owner group bytes) }
   put-stored owner group bytes e = ap (λ (o : Option Rule). put_answer_by o site.fields moment path owner group bytes) e
 
   -- a read of a path that is no file's, and of one that is
-  pub read-missing : (upto : ℕ) → file_at path site.fields.files ≡ None → answer_to site moment (ReadEvent path upto) ≡ refused NoFile
+  pub read-missing : (upto : ℕ) → file_at path site.fields.files ≡ None → answer_to terms site moment (ReadEvent path upto) ≡ refused NoFile
   read-missing upto e = ap (λ (o : Option FileRec). read_answer_of o site.contents moment upto) e
 
   pub read-found : (upto : ℕ) (file : FileRec) → file_at path site.fields.files ≡ Some file
-      → answer_to site moment (ReadEvent path upto) ≡ record { reply = Bytes (take upto (bytes_of site.contents file.inode)); step = Some (bare_step moment (Accessed file.inode)) }
+      → answer_to terms site moment (ReadEvent path upto) ≡ record { reply = Bytes (take upto (bytes_of site.contents file.inode)); step = Some (bare_step moment (Accessed file.inode)) }
   read-found upto file e = ap (λ (o : Option FileRec). read_answer_of o site.contents moment upto) e
 
   -- a removal
-  pub remove-missing : file_at path site.fields.files ≡ None → answer_to site moment (RemoveEvent path) ≡ refused NoFile
+  pub remove-missing : file_at path site.fields.files ≡ None → answer_to terms site moment (RemoveEvent path) ≡ refused NoFile
   remove-missing e = ap (λ (o : Option FileRec). remove_answer_of o moment) e
 
   pub remove-found : (file : FileRec) → file_at path site.fields.files ≡ Some file
-      → answer_to site moment (RemoveEvent path) ≡ record { reply = Done file.inode; step = Some (bare_step moment (Removed file.inode)) }
+      → answer_to terms site moment (RemoveEvent path) ≡ record { reply = Done file.inode; step = Some (bare_step moment (Removed file.inode)) }
   remove-found file e = ap (λ (o : Option FileRec). remove_answer_of o moment) e
 
 -- a configuration that is refused, and one that is made
-pub configure-refused : (site : Site) (moment : ℕ) (texts : SiteTexts) (reply : Reply) → configure_refusal site.fields texts ≡ Some reply
-    → answer_to site moment (ConfigureEvent texts) ≡ record { reply = reply; step = None }
-configure-refused site moment texts reply e = ap (λ (o : Option Reply). configure_answer_by o moment texts) e
+pub configure-refused : (terms : Terms) (site : Site) (moment : ℕ) (texts : SiteTexts) (reply : Reply) → configure_refusal site.fields texts ≡ Some reply
+    → answer_to terms site moment (ConfigureEvent texts) ≡ record { reply = reply; step = None }
+configure-refused terms site moment texts reply e = ap (λ (o : Option Reply). configure_answer_by o moment texts) e
 
-pub configure-made : (site : Site) (moment : ℕ) (texts : SiteTexts) → configure_refusal site.fields texts ≡ None
-    → answer_to site moment (ConfigureEvent texts) ≡ record { reply = Done 0; step = Some (bare_step moment (Configured texts)) }
-configure-made site moment texts e = ap (λ (o : Option Reply). configure_answer_by o moment texts) e
+pub configure-made : (terms : Terms) (site : Site) (moment : ℕ) (texts : SiteTexts) → configure_refusal site.fields texts ≡ None
+    → answer_to terms site moment (ConfigureEvent texts) ≡ record { reply = Done 0; step = Some (bare_step moment (Configured texts)) }
+configure-made terms site moment texts e = ap (λ (o : Option Reply). configure_answer_by o moment texts) e
 
 -- no command
 abbrev pub no_command : Answer
 no_command = record { reply = Line NotACommand; step = None }
 
 -- an event of another kind
-pub other-answer : (site : Site) (moment : ℕ) (event : Event) → ((path owner group bytes : List ℕ) → event ≡ PutEvent path owner group bytes → ⊥)
+pub other-answer : (terms : Terms) (site : Site) (moment : ℕ) (event : Event) → ((path owner group bytes : List ℕ) → event ≡ PutEvent path owner group bytes → ⊥)
     → ((path : List ℕ) (upto : ℕ) → event ≡ ReadEvent path upto → ⊥) → ((path : List ℕ) → event ≡ RemoveEvent path → ⊥)
-    → ((texts : SiteTexts) → event ≡ ConfigureEvent texts → ⊥) → answer_to site moment event ≡ no_command
-other-answer site moment (PutEvent path owner group bytes) put read remove configure = absurd (put path owner group bytes refl)
-other-answer site moment (ReadEvent path upto) put read remove configure = absurd (read path upto refl)
-other-answer site moment (RemoveEvent path) put read remove configure = absurd (remove path refl)
-other-answer site moment (ConfigureEvent texts) put read remove configure = absurd (configure texts refl)
-other-answer site moment _ put read remove configure = refl
+    → ((texts : SiteTexts) → event ≡ ConfigureEvent texts → ⊥) → answer_to terms site moment event ≡ no_command
+other-answer terms site moment (PutEvent path owner group bytes) put read remove configure = absurd (put path owner group bytes refl)
+other-answer terms site moment (ReadEvent path upto) put read remove configure = absurd (read path upto refl)
+other-answer terms site moment (RemoveEvent path) put read remove configure = absurd (remove path refl)
+other-answer terms site moment (ConfigureEvent texts) put read remove configure = absurd (configure texts refl)
+other-answer terms site moment _ put read remove configure = refl
 
 -- The answer of a journal with and without room.
 
 abbrev full_answer : Answer
 full_answer = record { reply = JournalFull; step = None }
 
-abbrev roomed : ℕ → List HistoryStep → Answer → Answer
-roomed size history answer = cond (has_room size history answer.step) answer full_answer
+abbrev roomed : Terms → List HistoryStep → Answer → Answer
+roomed terms history answer = cond (has_room terms history answer.step) answer full_answer
 
-module _ (size : ℕ) (history : List HistoryStep) (answer : Answer) where
-  without_step : answer.step ≡ None → roomed size history answer ≡ answer
-  without_step e = ap (λ (o : Option HistoryStep). cond (has_room size history o) answer full_answer) e
+module _ (terms : Terms) (history : List HistoryStep) (answer : Answer) where
+  without_step : answer.step ≡ None → roomed terms history answer ≡ answer
+  without_step e = ap (λ (o : Option HistoryStep). cond (has_room terms history o) answer full_answer) e
 
   module _ (made : HistoryStep) (e : answer.step ≡ Some made) where
-    with_room : journal_length history + 6 + length (written made.step) ≤ size → roomed size history answer ≡ answer
+    with_room : journal_length history + 6 + length (written made.step) ≤ terms.size → roomed terms history answer ≡ answer
     with_room fits =
-        ap (λ (o : Option HistoryStep). cond (has_room size history o) answer full_answer) e
-        ∙ ap (λ (b : Bool). cond b answer full_answer) (le-leb (journal_length history + 6 + length (written made.step)) size fits)
+        ap (λ (o : Option HistoryStep). cond (has_room terms history o) answer full_answer) e
+        ∙ ap (λ (b : Bool). cond b answer full_answer) (le-leb (journal_length history + 6 + length (written made.step)) terms.size fits)
 
-    without_room : size < journal_length history + 6 + length (written made.step) → roomed size history answer ≡ full_answer
+    without_room : terms.size < journal_length history + 6 + length (written made.step) → roomed terms history answer ≡ full_answer
     without_room full =
-        ap (λ (o : Option HistoryStep). cond (has_room size history o) answer full_answer) e
-        ∙ ap (λ (b : Bool). cond b answer full_answer) (lt-leb (journal_length history + 6 + length (written made.step)) size full)
+        ap (λ (o : Option HistoryStep). cond (has_room terms history o) answer full_answer) e
+        ∙ ap (λ (b : Bool). cond b answer full_answer) (lt-leb (journal_length history + 6 + length (written made.step)) terms.size full)
 
 -- The replies.
 
@@ -121,82 +122,82 @@ is_reply-bytes false defined bytes same as_many = (bytes, refl, as_many)
 abbrev pub owing : List HistoryStep → ℕ → HistoryStep → World
 owing history moment made = record { history = history; clock = moment; due = true; owed = Some made }
 
-module _ (size : ℕ) (told : Bool) (history : List HistoryStep) (event : Event) (moment area : ℕ) where
-  goes : (answer : Answer) (reply : Reply) → roomed size history (answer_to (after history) moment event) ≡ answer → IsReply told answer.reply reply
-      → TurnBy Goes told (answer_in size history moment event) history moment reply (at (with_step history answer.step) moment)
+module _ (terms : Terms) (told : Bool) (history : List HistoryStep) (event : Event) (moment area : ℕ) where
+  goes : (answer : Answer) (reply : Reply) → roomed terms history (answer_to terms (after terms history) moment event) ≡ answer → IsReply told answer.reply reply
+      → TurnBy Goes told (answer_in terms history moment event) history moment reply (at (with_step history answer.step) moment)
   goes answer reply e is = (
     subst (λ (a : Answer). IsReply told a.reply reply) (sym e) is,
     ap (λ (a : Answer). at (with_step history a.step) moment) (sym e),
   )
 
   -- a rule refuses the event
-  pub refused-turn : (rule : Rule) → answer_to (after history) moment event ≡ refused rule → Turn size told history event moment area (Refused rule) (at history moment)
+  pub refused-turn : (rule : Rule) → answer_to terms (after terms history) moment event ≡ refused rule → Turn terms told history event moment area (Refused rule) (at history moment)
   refused-turn rule e = goes (refused rule) (Refused rule)
-      (ap (λ (a : Answer). roomed size history a) e ∙ without_step size history (refused rule) refl) (is_reply told (Refused rule) (Refused rule) refl)
+      (ap (λ (a : Answer). roomed terms history a) e ∙ without_step terms history (refused rule) refl) (is_reply told (Refused rule) (Refused rule) refl)
 
   -- a command file is wrong
-  pub conf-turn : (refusal : FileRefusal) → answer_to (after history) moment event ≡ record { reply = conf_refused refusal; step = None }
-      → Turn size told history event moment area (conf_refused refusal) (at history moment)
+  pub conf-turn : (refusal : FileRefusal) → answer_to terms (after terms history) moment event ≡ record { reply = conf_refused refusal; step = None }
+      → Turn terms told history event moment area (conf_refused refusal) (at history moment)
   conf-turn refusal e = goes (record { reply = conf_refused refusal; step = None }) (conf_refused refusal)
-      (ap (λ (a : Answer). roomed size history a) e ∙ without_step size history (record { reply = conf_refused refusal; step = None }) refl)
+      (ap (λ (a : Answer). roomed terms history a) e ∙ without_step terms history (record { reply = conf_refused refusal; step = None }) refl)
       (is_reply told (conf_refused refusal) (conf_refused refusal) refl)
 
   -- it is no command
-  pub line-turn : answer_to (after history) moment event ≡ no_command → Turn size told history event moment area (Line NotACommand) (at history moment)
+  pub line-turn : answer_to terms (after terms history) moment event ≡ no_command → Turn terms told history event moment area (Line NotACommand) (at history moment)
   line-turn e = goes no_command (Line NotACommand)
-      (ap (λ (a : Answer). roomed size history a) e ∙ without_step size history no_command refl) (is_reply told (Line NotACommand) (Line NotACommand) refl)
+      (ap (λ (a : Answer). roomed terms history a) e ∙ without_step terms history no_command refl) (is_reply told (Line NotACommand) (Line NotACommand) refl)
 
   -- memory was wanting
-  pub memory-turn : Turn size told history event moment area NoMemory (at history moment)
+  pub memory-turn : Turn terms told history event moment area NoMemory (at history moment)
   memory-turn = refl
 
   -- another area than the journal failed
-  pub stays-turn : (area ≡ 0 → ⊥) → Turn size told history event moment area BankFault (at history moment)
-  stays-turn other = subst (λ (c : Course). TurnBy c told (answer_in size history moment event) history moment BankFault (at history moment))
+  pub stays-turn : (area ≡ 0 → ⊥) → Turn terms told history event moment area BankFault (at history moment)
+  stays-turn other = subst (λ (c : Course). TurnBy c told (answer_in terms history moment event) history moment BankFault (at history moment))
       (ap (λ (b : Bool). cond b Owes Stays) (sym (ne_eqb area 0 other))) refl
 
   -- a step is answered, and its record is behind those of the history; the place and the payload are those of the code
-  module _ (defined : Reply) (made : HistoryStep) (answered : answer_to (after history) moment event ≡ record { reply = defined; step = Some made })
+  module _ (defined : Reply) (made : HistoryStep) (answered : answer_to terms (after terms history) moment event ≡ record { reply = defined; step = Some made })
       (place : ℕ) (payload : List ℕ) (at_end : place ≡ journal_length history) (form : payload ≡ written made.step) where
     abbrev answer : Answer
     answer = record { reply = defined; step = Some made }
 
     -- the journal has no room
-    pub full-turn : size < place + 6 + length payload → Turn size told history event moment area JournalFull (at history moment)
+    pub full-turn : terms.size < place + 6 + length payload → Turn terms told history event moment area JournalFull (at history moment)
     full-turn full = goes full_answer JournalFull
-        (ap (λ (a : Answer). roomed size history a) answered ∙ without_room size history (record { reply = defined; step = Some made }) made refl (omega (arith, full, at_end, ap length form)))
+        (ap (λ (a : Answer). roomed terms history a) answered ∙ without_room terms history (record { reply = defined; step = Some made }) made refl (omega (arith, full, at_end, ap length form)))
         (is_reply told JournalFull JournalFull refl)
 
-    module _ (fits : place + 6 + length payload ≤ size) where
-      is_answer : roomed size history (answer_to (after history) moment event) ≡ record { reply = defined; step = Some made }
-      is_answer = ap (λ (a : Answer). roomed size history a) answered
-          ∙ with_room size history (record { reply = defined; step = Some made }) made refl (omega (arith, fits, at_end, ap length form))
+    module _ (fits : place + 6 + length payload ≤ terms.size) where
+      is_answer : roomed terms history (answer_to terms (after terms history) moment event) ≡ record { reply = defined; step = Some made }
+      is_answer = ap (λ (a : Answer). roomed terms history a) answered
+          ∙ with_room terms history (record { reply = defined; step = Some made }) made refl (omega (arith, fits, at_end, ap length form))
 
       -- the step is acknowledged
       pub made-turn : (reply : Reply) → course_of reply area ≡ Goes → IsReply told defined reply
-          → Turn size told history event moment area reply (at (history ++ made ∷ []) moment)
-      made-turn reply course is = subst (λ (c : Course). TurnBy c told (answer_in size history moment event) history moment reply (at (history ++ made ∷ []) moment)) (sym course)
+          → Turn terms told history event moment area reply (at (history ++ made ∷ []) moment)
+      made-turn reply course is = subst (λ (c : Course). TurnBy c told (answer_in terms history moment event) history moment reply (at (history ++ made ∷ []) moment)) (sym course)
           (goes (record { reply = defined; step = Some made }) reply is_answer is)
 
       -- the journal failed
-      pub owes-turn : area ≡ 0 → Turn size told history event moment area BankFault (owing history moment made)
-      owes-turn journal = subst (λ (c : Course). TurnBy c told (answer_in size history moment event) history moment BankFault (owing history moment made))
+      pub owes-turn : area ≡ 0 → Turn terms told history event moment area BankFault (owing history moment made)
+      owes-turn journal = subst (λ (c : Course). TurnBy c told (answer_in terms history moment event) history moment BankFault (owing history moment made))
           (ap (λ (b : Bool). cond b Owes Stays) (sym (eq-eqb area 0 journal)))
           (ap (λ (a : Answer). let w : World = record { history = history; clock = moment; due = true; owed = a.step } in w) (sym is_answer))
 
 -- What a world is then.
 
-effect-moment : (site : Site) (moment : ℕ) (kind : StepKind) (bytes : List ℕ) → IsLegal site.fields (record { moment = moment; kind = kind })
-    → (effect (record { step = record { moment = moment; kind = kind }; bytes = bytes }) site).fields.moment ≡ moment
-effect-moment site moment (Put put) bytes legal = refl
-effect-moment site moment (Accessed inode) bytes legal = refl
-effect-moment site moment (Removed inode) bytes legal = refl
-effect-moment site moment (Configured texts) bytes legal = refl
-effect-moment site moment _ bytes legal = absurd legal.2
+effect-moment : (terms : Terms) (site : Site) (moment : ℕ) (kind : StepKind) (bytes : List ℕ) → IsLegal terms site.fields (record { moment = moment; kind = kind })
+    → (effect terms (record { step = record { moment = moment; kind = kind }; bytes = bytes }) site).fields.moment ≡ moment
+effect-moment terms site moment (Put put) bytes legal = refl
+effect-moment terms site moment (Accessed inode) bytes legal = refl
+effect-moment terms site moment (Removed inode) bytes legal = refl
+effect-moment terms site moment (Configured texts) bytes legal = refl
+effect-moment terms site moment _ bytes legal = absurd legal.2
 
 -- the moment of a site is that of its last step
-pub moment-push : (history : List HistoryStep) (made : HistoryStep) → IsLegal (after history).fields made.step → (after (history ++ made ∷ [])).fields.moment ≡ made.step.moment
-moment-push history made legal = ap (λ (s : Site). s.fields.moment) (after-push history made) ∙ effect-moment (after history) made.step.moment made.step.kind made.bytes legal
+pub moment-push : (terms : Terms) (history : List HistoryStep) (made : HistoryStep) → IsLegal terms (after terms history).fields made.step → (after terms (history ++ made ∷ [])).fields.moment ≡ made.step.moment
+moment-push terms history made legal = ap (λ (s : Site). s.fields.moment) (after-push terms history made) ∙ effect-moment terms (after terms history) made.step.moment made.step.kind made.bytes legal
 
 -- a step that is owed was made at the clock's moment
 pub owing-in_time : (history : List HistoryStep) (moment : ℕ) (made : HistoryStep) → made.step.moment ≡ moment

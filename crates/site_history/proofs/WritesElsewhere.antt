@@ -6,6 +6,7 @@ use Rattle.bank.specs.View.{View, LeavesOnly}
 use Rattle.bank.specs.Inside.{SameBeside, IsTornInside, WroteInside}
 use Rattle.bank.proofs.Spans.{Stands-same}
 use Rattle.bank.proofs.Moments.{weakened}
+use Rattle.site_history.specs.Terms.{Terms}
 use Rattle.site_history.specs.Steps.{HistoryStep}
 use Rattle.site_history.specs.Histories.{after, IsHistory}
 use Rattle.site_history.specs.Images.{Extent, extents, AllStand, Reads}
@@ -61,19 +62,19 @@ module _ (area : ℕ) (inside : ℕ → Bool) where
   moved_stand v w [] clear wrote h = tt
   moved_stand v w (e ∷ es) clear wrote h = (moved_one v w e clear.0 wrote h.0, moved_stand v w es clear.1 wrote h.1)
 
-  module _ (size : ℕ) (v w : View) (steps : List HistoryStep) (other : area ≢ 0) (clear : IsClearOf area inside (extents (after steps))) (h : IsPinned size v steps)
+  module _ (terms : Terms) (v w : View) (steps : List HistoryStep) (other : area ≢ 0) (clear : IsClearOf area inside (extents (after terms steps))) (h : IsPinned terms v steps)
       (wrote : WroteInside area inside v w) where
     -- A store stays pinned to its history.
-    pub still_pinned : IsPinned size w steps
+    pub still_pinned : IsPinned terms w steps
     still_pinned = record {
       records = record { each = λ c left. h.records.each c (wrote.other_images 0 c (λ e. other (sym e)) left) };
-      bytes = wrote_stands v w (extents (after steps)) clear h.bytes wrote;
+      bytes = wrote_stands v w (extents (after terms steps)) clear h.bytes wrote;
     }
 
     -- At each moment meanwhile, what a crash leaves reads as the history.
-    pub still_reads : IsHistory steps → LeavesOnly v w (λ c. Reads size c steps)
-    still_reads history = weakened v w (IsTornInside v area inside) (λ c. Reads size c steps) wrote.moments (λ c torn. record {
+    pub still_reads : IsHistory terms steps → LeavesOnly v w (λ c. Reads terms c steps)
+    still_reads history = weakened v w (IsTornInside v area inside) (λ c. Reads terms c steps) wrote.moments (λ c torn. record {
       history = history;
       records = h.records.each (c 0) (torn.others 0 (λ e. other (sym e)));
-      bytes = torn_stands v c (extents (after steps)) clear h.bytes torn;
+      bytes = torn_stands v c (extents (after terms steps)) clear h.bytes torn;
     })

@@ -19,6 +19,7 @@ use Rattle.configuration.specs.ConfigurationRules.{AreWithin}
 use Rattle.configuration.specs.ConfigurationSteps.{are_within, refusal_of}
 use Rattle.configuration.specs.ConfigurationRules.{IsFirstWrong}
 use Rattle.cache_space.specs.Blocks.{blocks_for, free_blocks, lowest_runs}
+use Rattle.site_history.specs.Terms.{Terms}
 use Rattle.site_history.specs.Site.{Fields, FileBytes, Site, file_at, held_runs, bytes_of, cache_blocks}
 use Rattle.site_history.specs.Steps.{HistoryStep, inode_for}
 
@@ -117,9 +118,9 @@ pub record TellsFirstWrong (fields : Fields) (texts : SiteTexts) (reply : Reply)
       → (reply ≡ conf_refused refusal) ⊎ (reply ≡ BankFault) ⊎ (reply ≡ NoMemory)
 
 -- what is answered to an event at a moment; an event of a kind that is not served is no command
-abbrev pub answer_to : Site → ℕ → Event → Answer
-answer_to site moment (PutEvent path owner group bytes) = put_answer site.fields moment path owner group bytes
-answer_to site moment (ReadEvent path upto) = read_answer_of (file_at path site.fields.files) site.contents moment upto
-answer_to site moment (RemoveEvent path) = remove_answer_of (file_at path site.fields.files) moment
-answer_to site moment (ConfigureEvent texts) = configure_answer site.fields moment texts
-answer_to site moment _ = record { reply = Line NotACommand; step = None }
+abbrev pub answer_to : Terms → Site → ℕ → Event → Answer
+answer_to terms site moment (PutEvent path owner group bytes) = put_answer site.fields moment path owner group bytes
+answer_to terms site moment (ReadEvent path upto) = read_answer_of (file_at path site.fields.files) site.contents moment upto
+answer_to terms site moment (RemoveEvent path) = remove_answer_of (file_at path site.fields.files) moment
+answer_to terms site moment (ConfigureEvent texts) = configure_answer site.fields moment texts
+answer_to terms site moment _ = record { reply = Line NotACommand; step = None }

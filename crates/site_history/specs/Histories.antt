@@ -1,23 +1,24 @@
 -- Histories: lists of steps, each legal in its place.
 use Rattle.std.specs.Prelude.{ℕ, ◌+◌, List, [], ◌∷◌, length, map}
 use Rattle.step_codec.specs.Written.{written}
+use Rattle.site_history.specs.Terms.{Terms}
 use Rattle.site_history.specs.Site.{Site, first_site}
 use Rattle.site_history.specs.Steps.{HistoryStep, effect, IsLegal, HasBytes}
 
 -- the site after some steps
-abbrev pub after_from : Site → List HistoryStep → Site
-after_from site [] = site
-after_from site (made ∷ steps) = after_from (effect made site) steps
+abbrev pub after_from : Terms → Site → List HistoryStep → Site
+after_from terms site [] = site
+after_from terms site (made ∷ steps) = after_from terms (effect terms made site) steps
 
-abbrev pub after : List HistoryStep → Site
-after steps = after_from first_site steps
+abbrev pub after : Terms → List HistoryStep → Site
+after terms steps = after_from terms first_site steps
 
-abbrev pub IsHistoryFrom : Site → List HistoryStep → Type 0
-IsHistoryFrom site [] = Unit {0}
-IsHistoryFrom site (made ∷ steps) = IsLegal site.fields made.step × HasBytes made × IsHistoryFrom (effect made site) steps
+abbrev pub IsHistoryFrom : Terms → Site → List HistoryStep → Type 0
+IsHistoryFrom terms site [] = Unit {0}
+IsHistoryFrom terms site (made ∷ steps) = IsLegal terms site.fields made.step × HasBytes made × IsHistoryFrom terms (effect terms made site) steps
 
-abbrev pub IsHistory : List HistoryStep → Type 0
-IsHistory steps = IsHistoryFrom first_site steps
+abbrev pub IsHistory : Terms → List HistoryStep → Type 0
+IsHistory terms steps = IsHistoryFrom terms first_site steps
 
 -- how many bytes the records of these steps take in the journal: a gate, a length of four bytes and the written form each
 abbrev pub journal_length : List HistoryStep → ℕ

@@ -5,6 +5,7 @@ use Rattle.bank.specs.View.{View, IsImage}
 use Rattle.journal.specs.Records.{HoldsRecords}
 use Rattle.site_types.specs.declared.file.FileRec.{FileRec}
 use Rattle.site_types.specs.declared.file.Run.{Run}
+use Rattle.site_history.specs.Terms.{Terms}
 use Rattle.site_history.specs.Site.{FileBytes, Site, bytes_of}
 use Rattle.site_history.specs.Steps.{HistoryStep}
 use Rattle.site_history.specs.Histories.{after, IsHistory, written_forms}
@@ -35,29 +36,29 @@ AllStand c (e ∷ es) = Stands (c e.area) e.place e.bytes × AllStand c es
 
 -- The image reads as this history: its journal, in an area of this size, holds the written forms of its steps, and the bytes
 -- of each file stand at its runs.
-pub record Reads (size : ℕ) (c : Image) (steps : List HistoryStep) : Type 0 where
-  pub history : IsHistory steps
-  pub records : HoldsRecords (c 0) 0 (written_forms steps) size
-  pub bytes : AllStand c (extents (after steps))
+pub record Reads (terms : Terms) (c : Image) (steps : List HistoryStep) : Type 0 where
+  pub history : IsHistory terms steps
+  pub records : HoldsRecords (c 0) 0 (written_forms steps) terms.size
+  pub bytes : AllStand c (extents (after terms steps))
 
 -- the image reads as the history, as that without its last step, or as that with one further step
-abbrev pub ReadsNear : ℕ → List HistoryStep → Image → Type 0
-ReadsNear size steps c = Reads size c steps
-    ⊎ ((front : List HistoryStep) × (last : HistoryStep) × (steps ≡ front ++ last ∷ []) × Reads size c front)
-    ⊎ ((made : HistoryStep) × Reads size c (steps ++ made ∷ []))
+abbrev pub ReadsNear : Terms → List HistoryStep → Image → Type 0
+ReadsNear terms steps c = Reads terms c steps
+    ⊎ ((front : List HistoryStep) × (last : HistoryStep) × (steps ≡ front ++ last ∷ []) × Reads terms c front)
+    ⊎ ((made : HistoryStep) × Reads terms c (steps ++ made ∷ []))
 
 -- What the store reads is an image of this history, and each image that a crash may leave reads nearly so.
-pub record IsSettled (size : ℕ) (v : View) (steps : List HistoryStep) : Type 0 where
-  pub now : Reads size v.content steps
-  pub each : (c : Image) → IsImage v c → ReadsNear size steps c
+pub record IsSettled (terms : Terms) (v : View) (steps : List HistoryStep) : Type 0 where
+  pub now : Reads terms v.content steps
+  pub each : (c : Image) → IsImage v c → ReadsNear terms steps c
 
 -- the image reads as the world's history, or as that with the step that is owed
-abbrev pub ReadsAs : ℕ → World → Image → Type 0
-ReadsAs size w c = Reads size c w.history ⊎ ((made : HistoryStep) × (w.owed ≡ Some made) × Reads size c (w.history ++ made ∷ []))
+abbrev pub ReadsAs : Terms → World → Image → Type 0
+ReadsAs terms w c = Reads terms c w.history ⊎ ((made : HistoryStep) × (w.owed ≡ Some made) × Reads terms c (w.history ++ made ∷ []))
 
 -- settled for the world's history, or for that with the step that is owed
-abbrev pub IsSettledAs : ℕ → View → World → Type 0
-IsSettledAs size v w = IsSettled size v w.history ⊎ ((made : HistoryStep) × (w.owed ≡ Some made) × IsSettled size v (w.history ++ made ∷ []))
+abbrev pub IsSettledAs : Terms → View → World → Type 0
+IsSettledAs terms v w = IsSettled terms v w.history ⊎ ((made : HistoryStep) × (w.owed ≡ Some made) × IsSettled terms v (w.history ++ made ∷ []))
 
 -- the same at each byte of these extents
 abbrev pub SameAt : Image → Image → List Extent → Type 0
@@ -65,9 +66,9 @@ SameAt c d [] = Unit {0}
 SameAt c d (e ∷ es) = ((k : ℕ) → k < length e.bytes → d e.area (e.place + k) ≡ c e.area (e.place + k)) × SameAt c d es
 
 -- two images agree in the journal, which has this size, and wherever a site's bytes lie
-abbrev pub Agree : ℕ → Image → Image → List HistoryStep → Type 0
-Agree size c d steps = ((k : ℕ) → k < size → d 0 k ≡ c 0 k) × SameAt c d (extents (after steps))
+abbrev pub Agree : Terms → Image → Image → List HistoryStep → Type 0
+Agree terms c d steps = ((k : ℕ) → k < terms.size → d 0 k ≡ c 0 k) × SameAt c d (extents (after terms steps))
 
 -- then both read as the history or neither does
 abbrev pub AgreeingReadAlike : Type 0
-AgreeingReadAlike = (size : ℕ) (c d : Image) (steps : List HistoryStep) → Agree size c d steps → Reads size c steps → Reads size d steps
+AgreeingReadAlike = (terms : Terms) (c d : Image) (steps : List HistoryStep) → Agree terms c d steps → Reads terms c steps → Reads terms d steps

@@ -1,3 +1,4 @@
+pub mod Terms
 pub mod Site
 pub mod Steps
 pub mod Histories

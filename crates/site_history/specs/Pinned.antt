@@ -7,6 +7,7 @@ use Rattle.site_types.specs.declared.file.Run.{Run}
 use Rattle.site_types.specs.declared.step.StepKind.{StepKind}
 use Rattle.site_types.specs.declared.step.StepKind.TheVariants.{Put}
 use Rattle.cache_space.specs.Blocks.{is_in_runs}
+use Rattle.site_history.specs.Terms.{Terms}
 use Rattle.site_history.specs.Steps.{HistoryStep}
 use Rattle.site_history.specs.Histories.{after, written_forms}
 use Rattle.site_history.specs.Images.{Extent, extents, extents_over}
@@ -17,9 +18,9 @@ StandInAll v [] = Unit {0}
 StandInAll v (e ∷ es) = ((c : Content) → v.may_leave e.area c → Stands c e.place e.bytes) × StandInAll v es
 
 -- whatever a crash leaves, the journal holds the history's records, and the bytes of each file stand at its runs
-pub record IsPinned (size : ℕ) (v : View) (steps : List HistoryStep) : Type 0 where
-  pub records : AllHold v (written_forms steps) size
-  pub bytes : StandInAll v (extents (after steps))
+pub record IsPinned (terms : Terms) (v : View) (steps : List HistoryStep) : Type 0 where
+  pub records : AllHold v (written_forms steps) terms.size
+  pub bytes : StandInAll v (extents (after terms steps))
 
 -- no byte of the extent is among the chosen bytes of the area
 abbrev pub IsClear : ℕ → (ℕ → Bool) → Extent → Type 0

@@ -18,6 +18,7 @@ use Rattle.configuration.specs.ConfigurationRules.{AreWithin}
 use Rattle.configuration.specs.ConfigurationSteps.{refusal_of}
 use Rattle.cache_space.specs.Blocks.{blocks_for}
 use Rattle.cache_space.specs.Space.{AreFree, AreMaximal, blocks_in}
+use Rattle.site_history.specs.Terms.{Terms}
 use Rattle.site_history.specs.Site.{Fields, FileBytes, Site, file_at, held_runs, with_file, with_bytes, cache_blocks}
 
 -- a step of a history: a put comes with the bytes of its file
@@ -96,8 +97,8 @@ abbrev pub configured_effect : ℕ → SiteTexts → Fields → Fields
 configured_effect moment texts fields = record fields { texts = texts; moment = moment }
 
 -- what a step changes of the fields; a kind that is not served changes nothing, and is never legal
-abbrev pub fields_after : Step → Fields → Fields
-fields_after step fields = by_kind step.kind
+abbrev pub fields_after : Terms → Step → Fields → Fields
+fields_after terms step fields = by_kind step.kind
   where
     by_kind : StepKind → Fields
     by_kind (Configured texts) = configured_effect step.moment texts fields
@@ -115,8 +116,8 @@ contents_after made contents = by_kind made.step.kind
     by_kind (Removed inode) = without_bytes inode contents
     by_kind _ = contents
 
-abbrev pub effect : HistoryStep → Site → Site
-effect made site = record { fields = fields_after made.step site.fields; contents = contents_after made site.contents }
+abbrev pub effect : Terms → HistoryStep → Site → Site
+effect terms made site = record { fields = fields_after terms made.step site.fields; contents = contents_after made site.contents }
 
 -- A put may come where path and names are legal, the length is at most 16,777,216 bytes, the inode is that of the path's
 -- file or the next one, where a further file fits, and the runs are maximal runs of free blocks, as many as the length needs.
@@ -142,8 +143,8 @@ pub record IsLegalConfiguration (fields : Fields) (texts : SiteTexts) : Type 0 w
   pub read : refusal_of texts ≡ None
 
 -- the step may come: its fields are in their ranges, its moment is at least the last one, and its kind's rule holds
-abbrev pub IsLegal : Fields → Step → Type 0
-IsLegal fields step = InRange step × (fields.moment ≤ step.moment) × by_kind step.kind
+abbrev pub IsLegal : Terms → Fields → Step → Type 0
+IsLegal terms fields step = InRange step × (fields.moment ≤ step.moment) × by_kind step.kind
   where
     by_kind : StepKind → Type 0
     by_kind (Configured texts) = IsLegalConfiguration fields texts

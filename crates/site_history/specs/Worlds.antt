@@ -6,6 +6,7 @@ use Rattle.site_events.specs.declared.event.Event.{Event}
 use Rattle.site_types.specs.declared.file.SiteTexts.{SiteTexts}
 use Rattle.site_events.specs.declared.reply.Reply.{Reply}
 use Rattle.site_events.specs.declared.reply.Reply.TheVariants.{Bytes, NoMemory, JournalFull, BankFault, BadJournal}
+use Rattle.site_history.specs.Terms.{Terms}
 use Rattle.site_history.specs.Site.{Site}
 use Rattle.site_history.specs.Steps.{HistoryStep}
 use Rattle.site_history.specs.Histories.{after, IsHistory, journal_length}
@@ -21,30 +22,30 @@ pub record World : Type 0 where
   -- the step that the journal may hold or not
   pub owed : Option HistoryStep
 
-abbrev pub site_of : World → Site
-site_of w = after w.history
+abbrev pub site_of : Terms → World → Site
+site_of terms w = after terms w.history
 
 -- a world in which nothing is open
 abbrev pub at : List HistoryStep → ℕ → World
 at history clock = record { history = history; clock = clock; due = false; owed = None }
 
 -- a world as opening gives it: its clock is the moment of the last step
-abbrev pub new_world : List HistoryStep → World
-new_world history = at history (after history).fields.moment
+abbrev pub new_world : Terms → List HistoryStep → World
+new_world terms history = at history (after terms history).fields.moment
 
 -- the moment of an event: the clock never goes back, and moments are below 2^40
 abbrev pub moment_of : ℕ → ℕ → ℕ
 moment_of clock now = max clock (min now (2 ^ 40 - 1))
 
 -- whether a journal of this size has room for the record of a further step and the closed gate behind it
-abbrev pub has_room : ℕ → List HistoryStep → Option HistoryStep → Bool
-has_room size history None = true
-has_room size history (Some made) = nat_le (journal_length history + 6 + length (written made.step)) size
+abbrev pub has_room : Terms → List HistoryStep → Option HistoryStep → Bool
+has_room terms history None = true
+has_room terms history (Some made) = nat_le (journal_length history + 6 + length (written made.step)) terms.size
 
 -- the answer to an event at a moment, where the journal has this size
-abbrev pub answer_in : ℕ → List HistoryStep → ℕ → Event → Answer
-answer_in size history moment event = let answer = answer_to (after history) moment event in
-    if has_room size history answer.step then answer else (record { reply = JournalFull; step = None })
+abbrev pub answer_in : Terms → List HistoryStep → ℕ → Event → Answer
+answer_in terms history moment event = let answer = answer_to terms (after terms history) moment event in
+    if has_room terms history answer.step then answer else (record { reply = JournalFull; step = None })
 
 -- the history with the step of an answer
 abbrev pub with_step : List HistoryStep → Option HistoryStep → List HistoryStep
@@ -77,8 +78,8 @@ TurnBy Owes told answer history moment reply w' = w' ≡ record { history = hist
 -- One event over a history with nothing open; `told` is whether the store tells its content. The reply is the one that is
 -- defined, and its step is made; or the reply is want of memory or a fault of the store outside the journal, and the world is
 -- as before but for its clock; or it is a fault in the journal, and the step is owed.
-abbrev pub Turn : ℕ → Bool → List HistoryStep → Event → ℕ → ℕ → Reply → World → Type 0
-Turn size told history event moment area reply w' = TurnBy (course_of reply area) told (answer_in size history moment event) history moment reply w'
+abbrev pub Turn : Terms → Bool → List HistoryStep → Event → ℕ → ℕ → Reply → World → Type 0
+Turn terms told history event moment area reply w' = TurnBy (course_of reply area) told (answer_in terms history moment event) history moment reply w'
 
 -- the history, or that with the step that is owed
 abbrev pub IsWithOrWithout : World → List HistoryStep → Type 0
@@ -86,14 +87,14 @@ IsWithOrWithout w steps = (steps ≡ w.history) ⊎ ((made : HistoryStep) × (w.
 
 -- Where a reopening leads: to the history or to that with the step that is owed, whichever the journal's area, as it read when
 -- the event began, holds the records of. A store that tells nothing may lead to any history, that of the journal as it was read.
-abbrev pub IsReopened : Bool → ℕ → Content → World → List HistoryStep → Type 0
-IsReopened true size read w steps = IsWithOrWithout w steps × HoldsHistory size read steps
-IsReopened false size read w steps = IsHistory steps
+abbrev pub IsReopened : Terms → Bool → Content → World → List HistoryStep → Type 0
+IsReopened terms true read w steps = IsWithOrWithout w steps × HoldsHistory terms read steps
+IsReopened terms false read w steps = IsHistory terms steps
 
 -- the clock then: it stays, but where a store that tells nothing leads to a history that ends later
-abbrev pub clock_from : Bool → World → List HistoryStep → ℕ
-clock_from true w steps = w.clock
-clock_from false w steps = max w.clock (after steps).fields.moment
+abbrev pub clock_from : Terms → Bool → World → List HistoryStep → ℕ
+clock_from terms true w steps = w.clock
+clock_from terms false w steps = max w.clock (after terms steps).fields.moment
 
 -- A reopening that is refused, and is still due. A store that tells its content never has a bad journal then.
 abbrev pub RefusesReopening : Bool → Reply → Type 0
@@ -103,30 +104,30 @@ RefusesReopening told (BadJournal place) = told ≡ false
 RefusesReopening told _ = ⊥
 
 -- an event where a reopening is due or not
-abbrev pub EventTurnBy : Bool → ℕ → Bool → World → Event → ℕ → ℕ → Content → Reply → World → Type 0
-EventTurnBy false size told w event now area read reply w' = Turn size told w.history event (moment_of w.clock now) area reply w'
-EventTurnBy true size told w event now area read reply w' =
-    ((steps : List HistoryStep) × IsReopened told size read w steps × Turn size told steps event (moment_of (clock_from told w steps) now) area reply w')
+abbrev pub EventTurnBy : Terms → Bool → Bool → World → Event → ℕ → ℕ → Content → Reply → World → Type 0
+EventTurnBy terms false told w event now area read reply w' = Turn terms told w.history event (moment_of w.clock now) area reply w'
+EventTurnBy terms true told w event now area read reply w' =
+    ((steps : List HistoryStep) × IsReopened terms told read w steps × Turn terms told steps event (moment_of (clock_from terms told w steps) now) area reply w')
     ⊎ (RefusesReopening told reply × (w' ≡ w))
 
 -- An event in a world: a turn; where a reopening is due, a turn from where that leads, or the reopening is refused. `read` is what
 -- the journal's area read when the event began.
-abbrev pub EventTurn : ℕ → Bool → World → Event → ℕ → ℕ → Content → Reply → World → Type 0
-EventTurn size told w event now area read reply w' = EventTurnBy w.due size told w event now area read reply w'
+abbrev pub EventTurn : Terms → Bool → World → Event → ℕ → ℕ → Content → Reply → World → Type 0
+EventTurn terms told w event now area read reply w' = EventTurnBy terms w.due told w event now area read reply w'
 
 -- the history over which an event is served, where a reopening is due or not: one to which that may lead, or the world's
-abbrev pub IsServedOver : Bool → ℕ → Bool → World → Content → List HistoryStep → Type 0
-IsServedOver false size told w read steps = steps ≡ w.history
-IsServedOver true size told w read steps = IsReopened told size read w steps
+abbrev pub IsServedOver : Terms → Bool → Bool → World → Content → List HistoryStep → Type 0
+IsServedOver terms false told w read steps = steps ≡ w.history
+IsServedOver terms true told w read steps = IsReopened terms told read w steps
 
 -- An event that configures the site by these texts tells the first command file that is wrong, of the site over which it is
 -- served; or a reopening that is due is refused before.
-abbrev pub TellsConfiguration : ℕ → Bool → World → Content → SiteTexts → Reply → Type 0
-TellsConfiguration size told w read texts reply =
-    ((steps : List HistoryStep) × IsServedOver w.due size told w read steps × TellsFirstWrong (after steps).fields texts reply)
+abbrev pub TellsConfiguration : Terms → Bool → World → Content → SiteTexts → Reply → Type 0
+TellsConfiguration terms told w read texts reply =
+    ((steps : List HistoryStep) × IsServedOver terms w.due told w read steps × TellsFirstWrong (after terms steps).fields texts reply)
     ⊎ ((w.due ≡ true) × RefusesReopening told reply)
 
 -- the history that a store is opened with: that for which it is settled; where it tells nothing, that of the journal as read
-abbrev pub IsFound : Bool → List HistoryStep → List HistoryStep → Type 0
-IsFound true before found = found ≡ before
-IsFound false before found = IsHistory found
+abbrev pub IsFound : Terms → Bool → List HistoryStep → List HistoryStep → Type 0
+IsFound terms true before found = found ≡ before
+IsFound terms false before found = IsHistory terms found

@@ -3,6 +3,7 @@
 ghost use Rattle.std.specs.Prelude.{◌≢◌, ℕ, List, [], IsTrue};
 ghost use Rattle.bank.specs.Content.{Image};
 ghost use Rattle.bank.specs.View.{IsImage, OnlyContent};
+ghost use Rattle.site_history.specs.Terms.{Terms};
 ghost use Rattle.site_history.specs.Steps.{HistoryStep};
 ghost use Rattle.site_history.specs.Images.{AgreeingReadAlike, Reads, IsSettled};
 
@@ -17,7 +18,7 @@ pub fn agreeing_read_alike()
 /// A store whose journal begins with a closed gate, whatever a crash leaves, is settled for the history of no step: that is the
 /// premise of a first run. It does nothing when it is called; its clause is the law.
 pub fn fresh_store_is_settled<B: Bank>(bank: &B)
-    ensures { IsTrue B.tells → (size : ℕ) → ((c : Image) → IsImage (B.view bank.now) c → c 0 0 ≢ 1) → IsSettled size (B.view bank.now) [] }
+    ensures { IsTrue B.tells → (terms : Terms) → ((c : Image) → IsImage (B.view bank.now) c → c 0 0 ≢ 1) → IsSettled terms (B.view bank.now) [] }
 {
     let _ = bank;
 }
@@ -25,8 +26,8 @@ pub fn fresh_store_is_settled<B: Bank>(bank: &B)
 /// A store that reads as a history, and of which a crash leaves what it reads, is settled for that history: that is the premise
 /// of a run after a crash. It does nothing when it is called; its clause is the law.
 pub fn store_after_a_crash_is_settled<B: Bank>(bank: &B)
-    ensures { IsTrue B.tells → (size : ℕ) → (steps : List HistoryStep) → ((area : ℕ) → OnlyContent area (B.view bank.now))
-        → Reads size (B.view bank.now).content steps → IsSettled size (B.view bank.now) steps }
+    ensures { IsTrue B.tells → (terms : Terms) → (steps : List HistoryStep) → ((area : ℕ) → OnlyContent area (B.view bank.now))
+        → Reads terms (B.view bank.now).content steps → IsSettled terms (B.view bank.now) steps }
 {
     let _ = bank;
 }
