@@ -1,4 +1,4 @@
 mod EachFile
 mod AllFiles
 pub mod Laws
-mod OneConfiguration
+pub mod Computed

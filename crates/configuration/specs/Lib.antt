@@ -1,3 +1,4 @@
 pub mod ConfigurationRules
 pub mod ConfigurationSteps
+pub mod ConfigurationTold
 pub mod FolderTexts
