@@ -15,7 +15,7 @@ use Rattle.site_history.specs.Steps.{HistoryStep}
 use Rattle.site_history.specs.Histories.{after}
 use Rattle.site_history.specs.Worlds.{at}
 use Rattle.site_history.specs.Answers.{bare_step, answer_to}
-use Rattle.site_history.specs.Images.{extents_over, AllStand}
+use Rattle.site_history.specs.Extents.{extents_over, AllStand}
 use Rattle.site_history.proofs.Accesses.{accessed_legal, read_length}
 use Rattle.site_history.proofs.FileReads.{pinned_file}
 use Rattle.site_history.proofs.Reopenings.{pinned_by_world}

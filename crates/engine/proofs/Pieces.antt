@@ -7,7 +7,7 @@ use Rattle.bank.specs.Inside.{WroteInside}
 use Rattle.bank.proofs.Inside.{inside_nothing, inside_then}
 use Rattle.site_types.specs.declared.file.Run.{Run}
 use Rattle.cache_space.specs.Space.{blocks_in}
-use Rattle.site_history.specs.Images.{extents_over, AllStand}
+use Rattle.site_history.specs.Extents.{extents_over, AllStand}
 use Rattle.site_history.specs.Pinned.{in_blocks_of}
 use Rattle.site_history.proofs.Storing.{wrote_run, listed_run}
 use Rattle.site_history.proofs.FileReads.{read_next}

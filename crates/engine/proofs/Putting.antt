@@ -12,11 +12,13 @@ use Rattle.site_types.specs.declared.step.Step.{Step}
 use Rattle.step_codec.specs.Written.{written}
 use Rattle.cache_space.specs.Blocks.{blocks_for, free_blocks, lowest_runs}
 use Rattle.site_history.specs.Site.{Fields, file_at, held_runs, cache_blocks}
-use Rattle.site_history.specs.Steps.{HistoryStep, IsLegal, inode_for}
+use Rattle.site_history.specs.Steps.{HistoryStep, IsLegal}
+use Rattle.site_history.specs.PutSteps.{inode_for}
 use Rattle.site_history.specs.Histories.{after}
 use Rattle.site_history.specs.Worlds.{World, at}
 use Rattle.site_history.specs.Answers.{Answer, put_rule, put_made, put_step, answer_to}
-use Rattle.site_history.specs.Images.{extents_over, Reads, ReadsAs}
+use Rattle.site_history.specs.Images.{Reads, ReadsAs}
+use Rattle.site_history.specs.Extents.{extents_over}
 use Rattle.site_history.specs.Pinned.{StandInAll, IsPinned, in_blocks_of}
 use Rattle.site_history.proofs.SiteLaws.{orderly}
 use Rattle.site_history.proofs.Puts.{admitted, put_legal, put_has_bytes}

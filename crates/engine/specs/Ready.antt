@@ -3,10 +3,10 @@ use Rattle.std.specs.Prelude.{◌≡◌, ℕ, Bool, true, IsTrue, Some, List}
 use Rattle.bank.specs.View.{View}
 use Rattle.step_codec.specs.Written.{written}
 use Rattle.site_history.specs.Site.{Fields}
-use Rattle.site_history.specs.Steps.{HistoryStep, IsLegal, HasBytes}
+use Rattle.site_history.specs.Steps.{HistoryStep, IsLegal, HasBytes, step_extents}
 use Rattle.site_history.specs.Histories.{after}
 use Rattle.site_history.specs.Worlds.{World, at}
-use Rattle.site_history.specs.Pinned.{StandInAll, put_extents}
+use Rattle.site_history.specs.Pinned.{StandInAll}
 use Rattle.site_state.specs.Keeps.{Keeps}
 use Rattle.engine.specs.declared.kept.Engine.{Engine}
 use Rattle.engine.specs.StandsFor.{StandsFor}

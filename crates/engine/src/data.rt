@@ -5,7 +5,7 @@ ghost use Rattle.bank.specs.Content.{Stands};
 ghost use Rattle.bank.specs.View.{Touches, OnlyRead};
 ghost use Rattle.bank.specs.Inside.{WroteInside};
 ghost use Rattle.cache_space.specs.Space.{AreMaximal, blocks_in};
-ghost use Rattle.site_history.specs.Images.{extents_over, AllStand};
+ghost use Rattle.site_history.specs.Extents.{extents_over, AllStand};
 ghost use Rattle.site_history.specs.Pinned.{StandInAll, in_blocks_of};
 ghost use Rattle.engine.specs.Counts.{AreCountedInCache};
 

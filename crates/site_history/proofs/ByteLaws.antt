@@ -3,8 +3,8 @@ use Rattle.std.proofs.Common.{◌≡◌, ℕ, List, [], ◌∷◌, refl, ◌∙�
 use Rattle.std.specs.Prelude.{◌==◌, find}
 use Rattle.std.specs.Option.{option_map_or}
 use Rattle.std.proofs.lemmas.Bool.{eq-eqb, ne_eqb, eqb-true}
-use Rattle.site_history.specs.Site.{FileBytes, bytes_of, with_bytes}
-use Rattle.site_history.specs.Steps.{without_bytes}
+use Rattle.site_history.specs.Site.{FileBytes, bytes_of}
+use Rattle.site_history.specs.Changes.{with_bytes, without_bytes}
 
 abbrev bytes_found : Option FileBytes → List ℕ
 bytes_found o = option_map_or (λ (file : FileBytes). file.bytes) o []

@@ -8,13 +8,14 @@ use Rattle.journal.proofs.Held.{now_has}
 use Rattle.step_codec.specs.Written.{written}
 use Rattle.site_history.specs.Terms.{Terms}
 use Rattle.site_history.specs.Site.{Site}
-use Rattle.site_history.specs.Steps.{HistoryStep, effect, IsLegal, HasBytes}
+use Rattle.site_history.specs.Steps.{HistoryStep, effect, IsLegal, HasBytes, step_extents}
 use Rattle.site_history.specs.Histories.{after, IsHistory, written_forms}
-use Rattle.site_history.specs.Images.{extents, AllStand, Reads}
-use Rattle.site_history.specs.Pinned.{StandInAll, IsPinned, put_extents}
+use Rattle.site_history.specs.Images.{extents, Reads}
+use Rattle.site_history.specs.Extents.{AllStand}
+use Rattle.site_history.specs.Pinned.{StandInAll, IsPinned}
 use Rattle.site_history.proofs.HistoryLaws.{after-push, history-push}
 use Rattle.site_history.proofs.Extents.{site_in_cache, stand_along, others_image}
-use Rattle.site_history.proofs.DistinctInodes.{distinct_inodes}
+use Rattle.site_history.proofs.KeptLaws.{distinct_inodes}
 use Rattle.site_history.proofs.StepExtents.{effect_stands}
 
 -- The written forms of a history and one step more.
@@ -24,7 +25,7 @@ written_forms-push (s ∷ steps) made = ap (λ (l : List (List ℕ)). written s.
 
 -- All bytes of the site after a step stand, if its history is pinned and what a put stores stands.
 pub step_ready : (terms : Terms) (v : View) (steps : List HistoryStep) (made : HistoryStep) → IsHistory terms steps → IsPinned terms v steps → IsLegal terms (after terms steps).fields made.step → HasBytes made
-    → StandInAll v (put_extents made) → StandInAll v (extents (effect terms made (after terms steps)))
+    → StandInAll v (step_extents made (after terms steps)) → StandInAll v (extents (effect terms made (after terms steps)))
 step_ready terms v steps made history h legal bytes ready = effect_stands terms v made (after terms steps) (distinct_inodes terms steps history) legal bytes h.bytes ready
 
 module _ (terms : Terms) (v w : View) (steps : List HistoryStep) (made : HistoryStep) (history : IsHistory terms steps) (legal : IsLegal terms (after terms steps).fields made.step) (has : HasBytes made)

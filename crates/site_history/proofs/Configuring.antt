@@ -16,10 +16,12 @@ use Rattle.configuration.specs.declared.read.FileRefusal.{FileRefusal}
 use Rattle.configuration.specs.ConfigurationRules.{AreWithin}
 use Rattle.configuration.specs.ConfigurationSteps.{are_within, refusal_of, blocks_of}
 use Rattle.configuration.proofs.Laws.{within-all, all-within}
+use Rattle.configuration.proofs.Computed.{computed-blocks}
 use Rattle.cache_space.specs.Space.{taken_by}
 use Rattle.site_history.specs.Terms.{Terms}
 use Rattle.site_history.specs.Site.{Fields, Site, held_runs, cache_blocks}
-use Rattle.site_history.specs.Steps.{IsLegalConfiguration, IsLegal, HasBytes, configured_effect}
+use Rattle.site_history.specs.Steps.{IsLegal, HasBytes}
+use Rattle.site_history.specs.ConfiguredSteps.{IsLegalConfiguration, configured_effect}
 use Rattle.site_history.specs.Answers.{bare_step, conf_refused, has_files, configure_refusal}
 use Rattle.site_history.proofs.StepRanges.{configured-range}
 
@@ -69,9 +71,9 @@ module _ (fields : Fields) (texts : SiteTexts) where
       record { no_file = nil_from_length fields.files (omega (arith, ltb-false 0 (length fields.files) rules.0)); within = within-all texts rules.1; read = rules.2 }
 
 -- the step may come
-pub configure-legal : (terms : Terms) (site : Site) (moment : ℕ) (texts : SiteTexts) → site.fields.files ≡ [] → AreWithin texts → refusal_of texts ≡ None → site.fields.moment ≤ moment → moment < 2 ^ 40
-    → IsLegal terms site.fields (bare_step moment (Configured texts)).step
-configure-legal terms site moment texts none within read later range =
+pub configure-legal : (terms : Terms) (fields : Fields) (moment : ℕ) (texts : SiteTexts) → fields.files ≡ [] → AreWithin texts → refusal_of texts ≡ None → fields.moment ≤ moment → moment < 2 ^ 40
+    → IsLegal terms fields (bare_step moment (Configured texts)).step
+configure-legal terms fields moment texts none within read later range =
     (configured-range moment texts range within, later, record { no_file = none; within = within; read = read })
 
 -- it has no bytes
@@ -79,15 +81,17 @@ pub configured_has_bytes : (moment : ℕ) (texts : SiteTexts) → HasBytes (bare
 configured_has_bytes moment texts = refl
 
 -- the cache of the site then
-module _ (fields : Fields) (moment : ℕ) (texts : SiteTexts) where
-  pub configured-blocks : cache_blocks (configured_effect moment texts fields) ≡ blocks_of texts
-  configured-blocks = refl
+module _ (fields : Fields) (texts : SiteTexts) where
+  pub configured-blocks : cache_blocks (configured_effect texts fields) ≡ blocks_of texts
+  configured-blocks = computed-blocks texts
 
   module _ (none : fields.files ≡ []) where
     -- no file holds a block of it
-    pub configured-held : held_runs (configured_effect moment texts fields).files ≡ []
+    pub configured-held : held_runs (configured_effect texts fields).files ≡ []
     configured-held = ap held_runs none
 
     -- so that all its blocks are free
-    pub configured-space : taken_by (blocks_of texts) [] ≡ taken_by (cache_blocks (configured_effect moment texts fields)) (held_runs (configured_effect moment texts fields).files)
-    configured-space = ap (λ (runs : List Run). taken_by (blocks_of texts) runs) (sym configured-held)
+    pub configured-space : taken_by (blocks_of texts) [] ≡ taken_by (cache_blocks (configured_effect texts fields)) (held_runs (configured_effect texts fields).files)
+    configured-space =
+        ap (λ (n : ℕ). taken_by n []) (sym configured-blocks)
+        ∙ ap (λ (runs : List Run). taken_by (cache_blocks (configured_effect texts fields)) runs) (sym configured-held)

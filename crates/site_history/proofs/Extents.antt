@@ -13,7 +13,8 @@ use Rattle.cache_space.specs.Space.{AreApart}
 use Rattle.cache_space.proofs.HeldBlocks.{AreApart-from_append_right}
 use Rattle.cache_space.proofs.RunLemmas.{is_in_run_from}
 use Rattle.site_history.specs.Site.{FileBytes, Site, held_runs, bytes_of}
-use Rattle.site_history.specs.Images.{Extent, extents_over, extents_of, extents, AllStand}
+use Rattle.site_history.specs.Images.{extents_of, extents}
+use Rattle.site_history.specs.Extents.{Extent, extents_over, AllStand}
 use Rattle.site_history.specs.Pinned.{StandInAll, IsClearOf, in_blocks_of}
 use Rattle.site_history.proofs.WritesElsewhere.{clear_append}
 

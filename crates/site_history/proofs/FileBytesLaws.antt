@@ -3,8 +3,8 @@ use Rattle.std.proofs.Common.{◌≡◌, ◌≢◌, ◌⊎◌, inl, inr, ℕ, Bo
 use Rattle.std.specs.Prelude.{find}
 use Rattle.std.specs.Option.{option_map_or}
 use Rattle.std.proofs.lemmas.Bool.{cases_eq, eq-eqb, ne_eqb}
-use Rattle.site_history.specs.Site.{FileBytes, with_bytes, bytes_of}
-use Rattle.site_history.specs.Steps.{without_bytes}
+use Rattle.site_history.specs.Site.{FileBytes, bytes_of}
+use Rattle.site_history.specs.Changes.{with_bytes, without_bytes}
 
 -- The bytes of an inode, where a list begins with those of this inode, or of another.
 bytes_here : (file : FileBytes) (contents : List FileBytes) (inode : ℕ) → file.inode ≡ inode → bytes_of (file ∷ contents) inode ≡ file.bytes

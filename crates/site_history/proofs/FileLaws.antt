@@ -6,17 +6,8 @@ use Rattle.std.specs.Prelude.{◌==◌}
 use Rattle.std.specs.List.{AllByRecursion, remove}
 use Rattle.std.proofs.lemmas.Bool.{eq-eqb, ne_eqb, eqb-false}
 use Rattle.site_types.specs.declared.file.FileRec.{FileRec}
-use Rattle.site_history.specs.Site.{with_file}
-use Rattle.site_history.specs.Steps.{accessed_by, without_file}
-
--- all inodes are below a number
-abbrev pub AreBelow : ℕ → List FileRec → Type 0
-AreBelow n files = AllByRecursion (λ (file : FileRec). file.inode < n) files
-
--- the inodes rise, the first from a number on
-abbrev pub AreRisingFrom : ℕ → List FileRec → Type 0
-AreRisingFrom low [] = Unit {0}
-AreRisingFrom low (file ∷ files) = (low ≤ file.inode) × AreRisingFrom (file.inode + 1) files
+use Rattle.site_history.specs.Changes.{with_file, without_file}
+use Rattle.site_history.specs.AccessedSteps.{accessed_by}
 
 pub rising-lower : (low high : ℕ) (files : List FileRec) → low ≤ high → AreRisingFrom high files → AreRisingFrom low files
 rising-lower low high [] le h = tt

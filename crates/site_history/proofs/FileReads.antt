@@ -15,7 +15,8 @@ use Rattle.site_history.specs.Terms.{Terms}
 use Rattle.site_history.specs.Site.{FileBytes, bytes_of}
 use Rattle.site_history.specs.Steps.{HistoryStep}
 use Rattle.site_history.specs.Histories.{after}
-use Rattle.site_history.specs.Images.{Extent, extents_over, extents_of, extents, AllStand}
+use Rattle.site_history.specs.Images.{extents_of, extents}
+use Rattle.site_history.specs.Extents.{Extent, extents_over, AllStand}
 use Rattle.site_history.specs.Pinned.{IsPinned}
 use Rattle.site_history.proofs.ImageLaws.{stand_image}
 use Rattle.site_history.proofs.Storing.{piece_of, dropped_runs}

@@ -7,7 +7,8 @@ use Rattle.std.proofs.lemmas.List.{get_or_default}
 use Rattle.std.proofs.lemmas.List.Folds.{find_at}
 use Rattle.std.proofs.lemmas.Option.{slice_get-get_or, slice_get_past}
 use Rattle.site_types.specs.declared.file.FileRec.{FileRec}
-use Rattle.site_history.proofs.FileLaws.{AreRisingFrom, rising_at}
+use Rattle.site_history.proofs.FileLaws.{rising_at}
+use Rattle.site_history.specs.Kept.{AreRisingFrom}
 
 -- the file at a place is this one
 pub record StandsAt (files : List FileRec) (file : FileRec) : Type 0 where

@@ -2,7 +2,7 @@
 -- cache's `hold` and `give`, whose clauses these lemmas take: `pushed-space` for a new file, whose runs are held; `replaced-space`
 -- for one that is replaced, whose new runs are held before the old ones are given; `removed-space` for one that is removed, whose
 -- runs are given; `held-set_same` for one whose runs stay. That the runs of two files have no block in common is a part of
--- `IsOrderly`.
+-- `IsKept`.
 use Rattle.std.proofs.Common.{◌≡◌, ℕ, ◌<◌, zero, suc, List, [], ◌∷◌, ◌++◌, length, get_or, set, take, drop, map, refl, sym, ◌∙◌, ap, subst, arith, Bool, true, false, cond, append_assoc}
 use Rattle.std.specs.Prelude.{◌==◌}
 use Rattle.std.specs.List.{remove}
@@ -14,7 +14,7 @@ use Rattle.cache_space.specs.Space.{taken_by, AreThere, AreApart, AreDisjoint}
 use Rattle.cache_space.proofs.HeldBlocks.{AreApart-sym, AreApart-from_append_right, AreThere-append, AreThere-from_append, AreDisjoint-append, AreDisjoint-from_append, taken_by-moved}
 use Rattle.cache_space.proofs.ChangedBlocks.{taken_by-replaced, AreDisjoint-removed, AreApart-removed, AreThere-removed, AreDisjoint-replaced, AreApart-replaced, AreThere-replaced}
 use Rattle.site_history.specs.Site.{held_runs}
-use Rattle.site_history.specs.Steps.{accessed_by}
+use Rattle.site_history.specs.AccessedSteps.{accessed_by}
 
 held-append : (files more : List FileRec) → held_runs (files ++ more) ≡ held_runs files ++ held_runs more
 held-append files more = flat_map-append (λ (file : FileRec). file.runs) files more

@@ -8,7 +8,8 @@ use Rattle.journal.proofs.Held.{agreeing_holds, fresh_holds}
 use Rattle.site_history.specs.Terms.{Terms}
 use Rattle.site_history.specs.Steps.{HistoryStep}
 use Rattle.site_history.specs.Histories.{after, IsHistory, written_forms}
-use Rattle.site_history.specs.Images.{Extent, extents, AllStand, Reads, SameAt, AgreeingReadAlike, IsSettled}
+use Rattle.site_history.specs.Images.{extents, Reads, SameAt, AgreeingReadAlike, IsSettled}
+use Rattle.site_history.specs.Extents.{Extent, AllStand}
 use Rattle.site_history.specs.Pinned.{StandInAll, IsPinned}
 
 -- An image with this content in one area, and elsewhere what a read gives.

@@ -14,8 +14,8 @@ pub mod FileLaws
 pub mod ByteLaws
 pub mod HeldRuns
 pub mod Finds
-pub mod SiteLaws
-pub mod Edits
+pub mod ByteEffects
+pub mod KeptLaws
 pub mod RunRanges
 pub mod StepRanges
 pub mod Puts

@@ -12,11 +12,13 @@ use Rattle.cache_space.specs.Blocks.{blocks_for, free_blocks, lowest_runs}
 use Rattle.cache_space.proofs.LowestRuns.{lowest_runs-maximal, lowest_runs-free, blocks_in-lowest_runs, lowest_runs-there}
 use Rattle.site_history.specs.Terms.{Terms}
 use Rattle.site_history.specs.Site.{Fields, Site, file_at, held_runs, cache_blocks}
-use Rattle.site_history.specs.Steps.{IsLegalPut, IsLegal, HasBytes, inode_for}
+use Rattle.site_history.specs.Steps.{IsLegal, HasBytes}
+use Rattle.site_history.specs.PutSteps.{IsLegalPut, inode_for}
 use Rattle.site_history.specs.Answers.{put_rule, put_for, put_made, put_step, is_full, lacks_space}
 use Rattle.site_history.proofs.RunRanges.{lowest_runs-few, maximal-small}
 use Rattle.site_history.proofs.StepRanges.{put_in_range}
-use Rattle.site_history.proofs.SiteLaws.{IsOrderly, found-file}
+use Rattle.site_history.proofs.KeptLaws.{found-file}
+use Rattle.site_history.specs.Kept.{IsKept}
 
 -- what is known where no rule refuses: a new file fits
 pub record IsAdmitted (fields : Fields) (path owner group : List ℕ) (size : ℕ) : Type 0 where
@@ -56,11 +58,11 @@ admitted_by fields path owner group size true true true false true s ep eo eg el
 admitted_by fields path owner group size true true true false false true ep eo eg el em es e = absurd (cc)
 
 -- the inode of a put
-inode_by : (count : ℕ) (site : Site) (path : List ℕ) (o : Option FileRec) → IsOrderly count site → file_at path site.fields.files ≡ o
-    → MatchOption o ((length site.fields.files < 65536) × (site.fields.next_inode ≤ 4294967294)) (λ _. Unit {0})
-    → IsInode (option_map_or (λ (file : FileRec). file.inode) o site.fields.next_inode)
-inode_by count site path None orderly e fits = (orderly.from_one, fits.1)
-inode_by count site path (Some file) orderly e fits = (found-file count site orderly path file e).0.inode
+inode_by : (count : ℕ) (fields : Fields) (path : List ℕ) (o : Option FileRec) → IsKept count fields → file_at path fields.files ≡ o
+    → MatchOption o ((length fields.files < 65536) × (fields.next_inode ≤ 4294967294)) (λ _. Unit {0})
+    → IsInode (option_map_or (λ (file : FileRec). file.inode) o fields.next_inode)
+inode_by count fields path None kept e fits = (kept.from_one, fits.1)
+inode_by count fields path (Some file) kept e fits = (found-file count fields kept path file e).0.inode
 
 -- what of a put is known of any site
 module _ (fields : Fields) (path owner group : List ℕ) (size : ℕ) where
@@ -82,21 +84,21 @@ module _ (fields : Fields) (path owner group : List ℕ) (size : ℕ) where
   }
 
 -- in a site after some history
-module _ (terms : Terms) (count : ℕ) (site : Site) (orderly : IsOrderly count site) (path owner group : List ℕ) (size : ℕ) (rule : put_rule site.fields path owner group size ≡ None) where
+module _ (terms : Terms) (count : ℕ) (fields : Fields) (kept : IsKept count fields) (path owner group : List ℕ) (size : ℕ) (rule : put_rule fields path owner group size ≡ None) where
   -- its inode is a number from 1 to 4,294,967,294
-  pub put_inode : IsInode (inode_for site.fields path)
-  put_inode = inode_by count site path (file_at path site.fields.files) orderly refl (admitted site.fields path owner group size rule).fits
+  pub put_inode : IsInode (inode_for fields path)
+  put_inode = inode_by count fields path (file_at path fields.files) kept refl (admitted fields path owner group size rule).fits
 
   -- its step may come
-  pub put_legal : (moment : ℕ) → site.fields.moment ≤ moment → moment < 2 ^ 40 → IsLegal terms site.fields (put_made site.fields moment path owner group size)
+  pub put_legal : (moment : ℕ) → fields.moment ≤ moment → moment < 2 ^ 40 → IsLegal terms fields (put_made fields moment path owner group size)
   put_legal moment later range =
-      let a = admitted site.fields path owner group size rule in (
-        put_in_range (put_for site.fields path owner group size) a.small a.legal_path a.legal_owner a.legal_group
-            (lowest_runs-few (cache_blocks site.fields) (held_runs site.fields.files) (blocks_for size)) moment range put_inode
-            (maximal-small (cache_blocks site.fields) (lowest_runs (cache_blocks site.fields) (held_runs site.fields.files) (blocks_for size)) (omega (arith, orderly.blocks))
-            (lowest_runs-maximal (cache_blocks site.fields) (held_runs site.fields.files) (blocks_for size)) (lowest_runs-there (cache_blocks site.fields) (held_runs site.fields.files) (blocks_for size))),
+      let a = admitted fields path owner group size rule in (
+        put_in_range (put_for fields path owner group size) a.small a.legal_path a.legal_owner a.legal_group
+            (lowest_runs-few (cache_blocks fields) (held_runs fields.files) (blocks_for size)) moment range put_inode
+            (maximal-small (cache_blocks fields) (lowest_runs (cache_blocks fields) (held_runs fields.files) (blocks_for size)) (omega (arith, kept.blocks))
+            (lowest_runs-maximal (cache_blocks fields) (held_runs fields.files) (blocks_for size)) (lowest_runs-there (cache_blocks fields) (held_runs fields.files) (blocks_for size))),
         later,
-        put_for_legal site.fields path owner group size a,
+        put_for_legal fields path owner group size a,
       )
 
 -- it comes with as many bytes as it says

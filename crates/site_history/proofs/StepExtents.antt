@@ -10,10 +10,14 @@ use Rattle.site_types.specs.declared.step.PutStep.{PutStep}
 use Rattle.site_types.specs.declared.step.StepKind.{StepKind}
 use Rattle.site_types.specs.declared.step.StepKind.TheVariants.{Configured, Put, Accessed, Removed}
 use Rattle.site_history.specs.Terms.{Terms}
-use Rattle.site_history.specs.Site.{FileBytes, Site, file_at, with_file, with_bytes, bytes_of}
-use Rattle.site_history.specs.Steps.{HistoryStep, stored_file, inode_for, accessed_by, without_file, without_bytes, put_effect, effect, IsLegal, HasBytes}
-use Rattle.site_history.specs.Images.{Extent, extents_over, extents_of, extents}
-use Rattle.site_history.specs.Pinned.{StandInAll, put_extents}
+use Rattle.site_history.specs.Site.{FileBytes, Site, file_at, bytes_of}
+use Rattle.site_history.specs.Changes.{with_file, with_bytes, without_file, without_bytes}
+use Rattle.site_history.specs.Steps.{HistoryStep, effect, IsLegal, HasBytes, step_extents}
+use Rattle.site_history.specs.AccessedSteps.{accessed_by}
+use Rattle.site_history.specs.PutSteps.{stored_file, inode_for, put_effect}
+use Rattle.site_history.specs.Images.{extents_of, extents}
+use Rattle.site_history.specs.Extents.{Extent, extents_over}
+use Rattle.site_history.specs.Pinned.{StandInAll}
 use Rattle.site_history.proofs.Extents.{stand_append, stand_front, stand_back}
 use Rattle.site_history.proofs.DistinctInodes.{HasNone, AreDistinct}
 use Rattle.site_history.proofs.FileBytesLaws.{bytes_of-with, bytes_of-with_other, bytes_of-without}
@@ -90,20 +94,16 @@ module _ (v : View) where
         (removed_stands inode contents files (stand_back v (extents_of contents file) (flat_map (extents_of contents) files) h)))
   ]
 
--- The file of a put has its inode, its runs and as many cached bytes as its length.
-stored_inode : (o : Option FileRec) (moment next : ℕ) (put : PutStep) → put.inode ≡ option_map_or (λ (file : FileRec). file.inode) o next → (stored_file o moment put).inode ≡ put.inode
-stored_inode None moment next put is = refl
-stored_inode (Some file) moment next put is = sym is
-
+-- The file of a put has its runs and as many cached bytes as its length.
 stored_extents : (o : Option FileRec) (moment : ℕ) (put : PutStep) (bytes : List ℕ) → length bytes ≡ put.length
     → extents_over (stored_file o moment put).runs (take (stored_file o moment put).cached bytes) ≡ extents_over put.runs bytes
 stored_extents None moment put bytes long = ap (λ (l : List ℕ). extents_over put.runs l) (take_all put.length bytes (omega (arith, long)))
 stored_extents (Some file) moment put bytes long = ap (λ (l : List ℕ). extents_over put.runs l) (take_all put.length bytes (omega (arith, long)))
 
-pub put_stands : (v : View) (moment : ℕ) (put : PutStep) (bytes : List ℕ) (site : Site) → AreDistinct site.fields.files → put.inode ≡ inode_for site.fields put.path → length bytes ≡ put.length
+pub put_stands : (terms : Terms) (v : View) (moment : ℕ) (put : PutStep) (bytes : List ℕ) (site : Site) → AreDistinct site.fields.files → put.inode ≡ inode_for site.fields put.path → length bytes ≡ put.length
     → StandInAll v (extents site) → StandInAll v (extents_over put.runs bytes)
-    → StandInAll v (extents (record { fields = put_effect moment put site.fields; contents = with_bytes (record { inode = put.inode; bytes = bytes }) site.contents }))
-put_stands v moment put bytes site distinct inode long h ready =
+    → StandInAll v (extents (record { fields = put_effect terms moment put site.fields; contents = with_bytes (record { inode = put.inode; bytes = bytes }) site.contents }))
+put_stands terms v moment put bytes site distinct inode long h ready =
     let o = file_at put.path site.fields.files in
     with_stands v (stored_file o moment put) (record { inode = put.inode; bytes = bytes }) site.contents site.fields.files
     (stored_inode o moment site.fields.next_inode put inode) distinct
@@ -111,14 +111,14 @@ put_stands v moment put bytes site distinct inode long h ready =
 
 -- If the bytes of a site stand, and those of a put do, then after the legal step so do those of the site.
 pub effect_stands : (terms : Terms) (v : View) (made : HistoryStep) (site : Site) → AreDistinct site.fields.files → IsLegal terms site.fields made.step → HasBytes made
-    → StandInAll v (extents site) → StandInAll v (put_extents made) → StandInAll v (extents (effect terms made site))
+    → StandInAll v (extents site) → StandInAll v (step_extents made site) → StandInAll v (extents (effect terms made site))
 effect_stands terms v made site distinct legal bytes h ready = by_kind made.step.kind made.step.moment made.bytes legal bytes ready
   where
     by_kind : (kind : StepKind) (moment : ℕ) (l : List ℕ) → IsLegal terms site.fields (record { moment = moment; kind = kind })
-        → HasBytes (record { step = record { moment = moment; kind = kind }; bytes = l }) → StandInAll v (put_extents (record { step = record { moment = moment; kind = kind }; bytes = l }))
+        → HasBytes (record { step = record { moment = moment; kind = kind }; bytes = l }) → StandInAll v (step_extents (record { step = record { moment = moment; kind = kind }; bytes = l }) site)
         → StandInAll v (extents (effect terms (record { step = record { moment = moment; kind = kind }; bytes = l }) site))
     by_kind (Put put) moment l legal long ready =
-        put_stands v moment put l site distinct legal.2.inode long h ready
+        put_stands terms v moment put l site distinct legal.2.inode long h ready
     by_kind (Accessed inode) moment l legal long ready = accessed_stands v moment inode site.contents site.fields.files h
     by_kind (Removed inode) moment l legal long ready = removed_stands v inode site.contents site.fields.files h
     by_kind (Configured texts) moment l legal long ready = h

@@ -14,7 +14,7 @@ use Rattle.cache_space.specs.Blocks.{is_in_run, is_in_runs}
 use Rattle.cache_space.specs.Space.{AreApart, AreMaximalFrom, AreMaximal, blocks_in}
 use Rattle.cache_space.proofs.HeldBlocks.{AreApart-nil_right, AreApart-append_right}
 use Rattle.cache_space.proofs.RunLemmas.{is_in_run_tells, is_in_run_from}
-use Rattle.site_history.specs.Images.{Extent, extents_over, AllStand}
+use Rattle.site_history.specs.Extents.{Extent, extents_over, AllStand}
 use Rattle.site_history.specs.Pinned.{StandInAll, in_blocks_of}
 use Rattle.site_history.proofs.WritesElsewhere.{moved_stand}
 use Rattle.site_history.proofs.Extents.{runs_clear, stored_stand}

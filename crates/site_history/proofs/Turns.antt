@@ -21,7 +21,8 @@ use Rattle.step_codec.specs.Written.{written}
 use Rattle.configuration.specs.declared.read.FileRefusal.{FileRefusal}
 use Rattle.site_history.specs.Terms.{Terms}
 use Rattle.site_history.specs.Site.{Site, file_at, bytes_of}
-use Rattle.site_history.specs.Steps.{HistoryStep, IsLegal, inode_for, effect}
+use Rattle.site_history.specs.Steps.{HistoryStep, IsLegal, effect}
+use Rattle.site_history.specs.PutSteps.{inode_for}
 use Rattle.site_history.specs.Histories.{after, journal_length}
 use Rattle.site_history.specs.Answers.{Answer, refused, put_rule, put_step, put_answer_by, read_answer_of, remove_answer_of, bare_step, conf_refused, configure_refusal, configure_answer_by, answer_to}
 use Rattle.site_history.specs.Worlds.{World, at, has_room, answer_in, with_step, IsReply, Course, Goes, Stays, Owes, course_of, TurnBy, Turn}

@@ -9,7 +9,8 @@ use Rattle.bank.proofs.Moments.{weakened}
 use Rattle.site_history.specs.Terms.{Terms}
 use Rattle.site_history.specs.Steps.{HistoryStep}
 use Rattle.site_history.specs.Histories.{after, IsHistory}
-use Rattle.site_history.specs.Images.{Extent, extents, AllStand, Reads}
+use Rattle.site_history.specs.Images.{extents, Reads}
+use Rattle.site_history.specs.Extents.{Extent, AllStand}
 use Rattle.site_history.specs.Pinned.{StandInAll, IsPinned, IsClear, IsClearOf}
 
 -- Extents of two lists are clear of the bytes if those of each are.

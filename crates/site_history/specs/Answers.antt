@@ -21,7 +21,8 @@ use Rattle.configuration.specs.ConfigurationRules.{IsFirstWrong}
 use Rattle.cache_space.specs.Blocks.{blocks_for, free_blocks, lowest_runs}
 use Rattle.site_history.specs.Terms.{Terms}
 use Rattle.site_history.specs.Site.{Fields, FileBytes, Site, file_at, held_runs, bytes_of, cache_blocks}
-use Rattle.site_history.specs.Steps.{HistoryStep, inode_for}
+use Rattle.site_history.specs.Steps.{HistoryStep}
+use Rattle.site_history.specs.PutSteps.{inode_for}
 
 -- a reply, and the step that it makes, if it makes one
 pub record Answer : Type 0 where

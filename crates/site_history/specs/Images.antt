@@ -1,26 +1,15 @@
 -- What an image of the store says of a site.
-use Rattle.std.specs.Prelude.{◌≡◌, ◌⊎◌, ℕ, ◌+◌, ◌*◌, ◌<◌, Some, List, [], ◌∷◌, ◌++◌, length, take, drop, flat_map}
-use Rattle.bank.specs.Content.{Image, Stands}
+use Rattle.std.specs.Prelude.{◌≡◌, ◌⊎◌, ℕ, ◌+◌, ◌<◌, Some, List, [], ◌∷◌, ◌++◌, length, take, flat_map}
+use Rattle.bank.specs.Content.{Image}
 use Rattle.bank.specs.View.{View, IsImage}
 use Rattle.journal.specs.Records.{HoldsRecords}
 use Rattle.site_types.specs.declared.file.FileRec.{FileRec}
-use Rattle.site_types.specs.declared.file.Run.{Run}
 use Rattle.site_history.specs.Terms.{Terms}
 use Rattle.site_history.specs.Site.{FileBytes, Site, bytes_of}
+use Rattle.site_history.specs.Extents.{Extent, AllStand, extents_over}
 use Rattle.site_history.specs.Steps.{HistoryStep}
 use Rattle.site_history.specs.Histories.{after, IsHistory, written_forms}
 use Rattle.site_history.specs.Worlds.{World}
-
--- bytes at a place of an area
-pub record Extent : Type 0 where
-  pub area : ℕ
-  pub place : ℕ
-  pub bytes : List ℕ
-
--- bytes laid over runs of blocks of 4,096 bytes in the cache, one run after another
-abbrev pub extents_over : List Run → List ℕ → List Extent
-extents_over [] bytes = []
-extents_over (run ∷ runs) bytes = (record { area = 1; place = run.first * 4096; bytes = take (run.count * 4096) bytes }) ∷ extents_over runs (drop (run.count * 4096) bytes)
 
 -- the cached bytes of a file at its runs
 abbrev pub extents_of : List FileBytes → FileRec → List Extent
@@ -29,10 +18,6 @@ extents_of contents file = extents_over file.runs (take file.cached (bytes_of co
 -- all bytes that a site has in the store
 abbrev pub extents : Site → List Extent
 extents site = flat_map (extents_of site.contents) site.fields.files
-
-abbrev pub AllStand : Image → List Extent → Type 0
-AllStand c [] = Unit {0}
-AllStand c (e ∷ es) = Stands (c e.area) e.place e.bytes × AllStand c es
 
 -- The image reads as this history: its journal, in an area of this size, holds the written forms of its steps, and the bytes
 -- of each file stand at its runs.

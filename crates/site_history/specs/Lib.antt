@@ -1,6 +1,13 @@
 pub mod Terms
 pub mod Site
+pub mod Changes
+pub mod Extents
+pub mod PutSteps
+pub mod AccessedSteps
+pub mod RemovedSteps
+pub mod ConfiguredSteps
 pub mod Steps
+pub mod Kept
 pub mod Histories
 pub mod Answers
 pub mod Worlds

@@ -4,13 +4,12 @@ use Rattle.bank.specs.Content.{Content, Stands}
 use Rattle.bank.specs.View.{View}
 use Rattle.journal.specs.Records.{AllHold}
 use Rattle.site_types.specs.declared.file.Run.{Run}
-use Rattle.site_types.specs.declared.step.StepKind.{StepKind}
-use Rattle.site_types.specs.declared.step.StepKind.TheVariants.{Put}
 use Rattle.cache_space.specs.Blocks.{is_in_runs}
 use Rattle.site_history.specs.Terms.{Terms}
 use Rattle.site_history.specs.Steps.{HistoryStep}
 use Rattle.site_history.specs.Histories.{after, written_forms}
-use Rattle.site_history.specs.Images.{Extent, extents, extents_over}
+use Rattle.site_history.specs.Images.{extents}
+use Rattle.site_history.specs.Extents.{Extent}
 
 -- each extent stands in whatever a crash leaves of its area
 abbrev pub StandInAll : View → List Extent → Type 0
@@ -34,11 +33,3 @@ IsClearOf area inside (e ∷ es) = IsClear area inside e × IsClearOf area insid
 -- the bytes of the cache that lie in blocks of these runs
 abbrev pub in_blocks_of : List Run → ℕ → Bool
 in_blocks_of runs k = is_in_runs runs (k / 4096)
-
--- what a put stores, as extents; no other step stores any
-abbrev pub put_extents : HistoryStep → List Extent
-put_extents made = by_kind made.step.kind
-  where
-    by_kind : StepKind → List Extent
-    by_kind (Put put) = extents_over put.runs made.bytes
-    by_kind _ = []

@@ -5,7 +5,7 @@ use Rattle.std.specs.Borrow.{Bor}
 use Rattle.std.specs.Option.{option_map_or, option_copied}
 use Rattle.site_types.specs.declared.file.FileRec.{FileRec}
 use Rattle.site_history.specs.Site.{Fields, file_at}
-use Rattle.site_history.specs.Steps.{inode_for}
+use Rattle.site_history.specs.PutSteps.{inode_for}
 use Rattle.site_state.specs.declared.state.SiteState.{SiteState}
 use Rattle.site_state.specs.Keeps.{Keeps}
 

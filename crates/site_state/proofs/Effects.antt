@@ -8,11 +8,13 @@ use Rattle.site_types.specs.declared.step.PutStep.{PutStep}
 use Rattle.site_types.specs.declared.file.FileRec.{FileRec}
 use Rattle.site_types.specs.declared.file.Run.{Run}
 use Rattle.cache_space.specs.Space.{taken_by, AreApart}
-use Rattle.site_history.specs.Site.{Fields, Site, file_at, held_runs, with_file, cache_blocks}
-use Rattle.site_history.specs.Steps.{stored_file, accessed_by, without_file, IsThere, IsLegalPut, next_after, put_effect}
-use Rattle.site_history.proofs.FileLaws.{with_file-new, with_file-set, accessed-set, without_file-remove, all_at, below_at, AreBelow}
+use Rattle.site_history.specs.Site.{Fields, Site, file_at, held_runs, cache_blocks}
+use Rattle.site_history.specs.Changes.{with_file, without_file, IsThere}
+use Rattle.site_history.specs.PutSteps.{stored_file, IsLegalPut, next_after, put_effect}
+use Rattle.site_history.specs.AccessedSteps.{accessed_by}
+use Rattle.site_history.proofs.FileLaws.{with_file-new, with_file-set, accessed-set, without_file-remove, all_at, below_at}
+use Rattle.site_history.specs.Kept.{AreBelow, IsKept, IsFileKept}
 use Rattle.site_history.proofs.HeldRuns.{held-push, replaced-taken, replaced-apart, removed-taken, removed-apart}
-use Rattle.site_history.proofs.SiteLaws.{IsOrderly, IsKept}
 use Rattle.site_state.specs.declared.state.SiteState.{SiteState}
 use Rattle.site_state.specs.Keeps.{Keeps}
 use Rattle.site_state.proofs.Places.{FirstAt, first_at, is_some-position, first-within, first-slice_get, first-get_or}

@@ -11,7 +11,8 @@ use Rattle.site_types.specs.declared.step.PutStep.{PutStep}
 use Rattle.site_types.specs.declared.step.StepKind.{StepKind}
 use Rattle.site_types.specs.declared.step.StepKind.TheVariants.{Configured, Put, Accessed, Removed}
 use Rattle.site_history.specs.Site.{Fields, file_at}
-use Rattle.site_history.specs.Steps.{inode_for, IsLegal}
+use Rattle.site_history.specs.Steps.{IsLegal}
+use Rattle.site_history.specs.PutSteps.{inode_for}
 use Rattle.site_state.proofs.Places.{FirstAt, first_at, none_passes, find-first, find-none, get_or-at, first-get_or}
 
 -- the place of a path's file

@@ -6,7 +6,7 @@ ghost use Rattle.std.specs.Option.{option_copied};
 ghost use Rattle.std.specs.Str.{bytes_eq};
 ghost use Rattle.site_types.specs.Ranges.{IsInode};
 ghost use Rattle.site_history.specs.Site.{file_at};
-ghost use Rattle.site_history.specs.Steps.{stored_file};
+ghost use Rattle.site_history.specs.PutSteps.{stored_file};
 ghost use Rattle.site_types.specs.declared.file.FileRec.{FileRec as Rec};
 
 use crate::path_index::{

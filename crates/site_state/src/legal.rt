@@ -6,7 +6,8 @@ ghost use Rattle.step_codec.specs.Written.{InRange};
 ghost use Rattle.cache_space.specs.Blocks.{blocks_for};
 ghost use Rattle.cache_space.specs.Space.{AreFree, AreMaximal, blocks_in};
 ghost use Rattle.site_history.specs.Site.{Fields, file_at, held_runs, cache_blocks};
-ghost use Rattle.site_history.specs.Steps.{inode_for, IsThere};
+ghost use Rattle.site_history.specs.PutSteps.{inode_for};
+ghost use Rattle.site_history.specs.Changes.{IsThere};
 ghost use Rattle.site_state.specs.Legal.{MayCome, AreTextsWithin};
 ghost use Rattle.site_state.specs.Keeps.{Keeps};
 

@@ -4,7 +4,7 @@ ghost use Rattle.std.specs.Prelude.{◌≡◌, ◌+◌, ◌<◌, ◌≤◌, ◌^
 ghost use Rattle.base.specs.Paths.{is_legal_path, is_legal_name};
 ghost use Rattle.site_types.specs.Ranges.{IsInode};
 ghost use Rattle.site_history.specs.Site.{Fields, file_at};
-ghost use Rattle.site_history.specs.Steps.{inode_for};
+ghost use Rattle.site_history.specs.PutSteps.{inode_for};
 ghost use Rattle.site_events.specs.declared.reply.Reply.TheVariants.{Refused};
 ghost use Rattle.configuration.specs.ConfigurationRules.{AreWithin};
 ghost use Rattle.configuration.specs.ConfigurationSteps.{refusal_of};

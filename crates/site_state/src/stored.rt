@@ -1,7 +1,7 @@
 //! What a put leaves of a file.
 
 ghost use Rattle.std.specs.Prelude.{◌≡◌, ◌+◌, ◌<◌, ◌^◌, None, Some};
-ghost use Rattle.site_history.specs.Steps.{stored_file};
+ghost use Rattle.site_history.specs.PutSteps.{stored_file};
 
 use base::List;
 use site_types::{CopySlots, FileRec, PutStep, ReleaseKind, Run, StageKind};

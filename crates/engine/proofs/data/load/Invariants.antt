@@ -1,7 +1,7 @@
 use Rattle.std.proofs.Common.{◌≤◌, ◌≡◌, ◌*◌, min, ℕ, List, IsTrue, length, take}
 use Rattle.bank.specs.View.{OnlyRead}
 use Rattle.cache_space.specs.Space.{blocks_in}
-use Rattle.site_history.specs.Images.{extents_over, AllStand}
+use Rattle.site_history.specs.Extents.{extents_over, AllStand}
 use Rattle.engine.proofs.data.load.Given as goal
 
 -- the runs so far are read

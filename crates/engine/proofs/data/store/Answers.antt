@@ -2,7 +2,7 @@ use Rattle.std.proofs.Common.{◌≡◌, ℕ, List, [], length, sym, ◌∙◌, 
 use Rattle.std.proofs.lemmas.List.{nil_from_length}
 use Rattle.bank.proofs.Inside.{inside_nothing, inside_then}
 use Rattle.journal.proofs.RecordLaws.{ok_then}
-use Rattle.site_history.specs.Images.{extents_over}
+use Rattle.site_history.specs.Extents.{extents_over}
 use Rattle.site_history.specs.Pinned.{StandInAll, in_blocks_of}
 use Rattle.site_history.proofs.Storing.{nothing_stands, synced_bytes}
 use Rattle.engine.proofs.Pieces.{nothing_written}

@@ -1,7 +1,7 @@
 use Rattle.std.proofs.Common.{◌≤◌, ◌≡◌, ◌*◌, IsTrue, drop, take}
 use Rattle.bank.specs.Inside.{WroteInside}
 use Rattle.cache_space.specs.Space.{blocks_in}
-use Rattle.site_history.specs.Images.{extents_over, AllStand}
+use Rattle.site_history.specs.Extents.{extents_over, AllStand}
 use Rattle.site_history.specs.Pinned.{in_blocks_of}
 use Rattle.engine.proofs.data.write_runs.Given as goal
 

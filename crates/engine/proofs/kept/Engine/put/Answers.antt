@@ -9,7 +9,7 @@ use Rattle.site_types.specs.declared.file.Run.{Run}
 use Rattle.site_events.specs.declared.reply.Reply.TheVariants.{Stored}
 use Rattle.step_codec.specs.Written.{written}
 use Rattle.site_history.specs.Histories.{after, journal_length}
-use Rattle.site_history.specs.Images.{extents_over}
+use Rattle.site_history.specs.Extents.{extents_over}
 use Rattle.site_history.specs.Pinned.{StandInAll, in_blocks_of}
 use Rattle.site_history.specs.Worlds.{at}
 use Rattle.site_history.proofs.Turns.{put-refused, refused-turn, full-turn, made-turn, owes-turn, stays-turn, owing, is_reply}

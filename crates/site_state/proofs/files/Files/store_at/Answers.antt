@@ -1,6 +1,6 @@
 use Rattle.std.proofs.Common.{◌+◌, ◌<◌, ◌^◌, List, length, set, Some, sym, ◌∙◌, ap, subst}
 use Rattle.site_types.specs.declared.file.FileRec.{FileRec}
-use Rattle.site_history.specs.Steps.{stored_file}
+use Rattle.site_history.specs.PutSteps.{stored_file}
 use Rattle.site_state.specs.FileList.{FileList}
 use Rattle.site_state.proofs.Indexed.{file_there, indexed-set}
 use Rattle.site_state.proofs.files.Files.store_at.Goals as goal
