@@ -6,6 +6,7 @@ use Rattle.std.specs.Prelude.{◌==◌}
 use Rattle.std.specs.List.{AllByRecursion, remove}
 use Rattle.std.proofs.lemmas.Bool.{eq-eqb, ne_eqb, eqb-false}
 use Rattle.site_types.specs.declared.file.FileRec.{FileRec}
+use Rattle.site_history.specs.Kept.{AreBelow, AreRisingFrom}
 use Rattle.site_history.specs.Changes.{with_file, without_file}
 use Rattle.site_history.specs.AccessedSteps.{accessed_by}
 

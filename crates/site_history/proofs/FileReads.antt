@@ -1,24 +1,19 @@
 -- The bytes of a file are read run by run.
 use Rattle.std.proofs.Common.{◌≡◌, inl, inr, ℕ, zero, suc, ◌+◌, ◌-◌, ◌*◌, ◌<◌, ◌≤◌, List, [], ◌∷◌, ◌++◌, length, take, drop, get_or, min, sym, ◌∙◌, ap, subst, arith, append-nil, take-take, length-take, length-drop}
 use Rattle.std.specs.Prelude.{flat_map}
-use Rattle.std.proofs.lemmas.List.{take_all, take_more, length-take-le, take-append-drop, nil_from_length}
+use Rattle.std.specs.List.{Contains}
+use Rattle.std.proofs.lemmas.List.{take_more, length-take-le, take-append-drop, nil_from_length}
 use Rattle.std.proofs.lemmas.Bool.{cases_lt}
 use Rattle.std.proofs.Math.Seq.{take-add}
 use Rattle.std.proofs.lemmas.List.Sums.{sum_by-append}
 use Rattle.bank.specs.Content.{Content, Image, Stands}
-use Rattle.bank.specs.View.{View, IsSound}
 use Rattle.bank.proofs.Spans.{Stands-front, Stands-only}
 use Rattle.site_types.specs.declared.file.FileRec.{FileRec}
 use Rattle.site_types.specs.declared.file.Run.{Run}
 use Rattle.cache_space.specs.Space.{blocks_in}
-use Rattle.site_history.specs.Terms.{Terms}
-use Rattle.site_history.specs.Site.{FileBytes, bytes_of}
-use Rattle.site_history.specs.Steps.{HistoryStep}
-use Rattle.site_history.specs.Histories.{after}
+use Rattle.site_history.specs.Site.{FileBytes, Site}
 use Rattle.site_history.specs.Images.{extents_of, extents}
 use Rattle.site_history.specs.Extents.{Extent, extents_over, AllStand}
-use Rattle.site_history.specs.Pinned.{IsPinned}
-use Rattle.site_history.proofs.ImageLaws.{stand_image}
 use Rattle.site_history.proofs.Storing.{piece_of, dropped_runs}
 
 -- What stands of two lists of extents stands of each.
@@ -38,14 +33,9 @@ file_stands c contents (file ∷ files) zero d lt h = image_front c (extents_of 
 file_stands c contents (file ∷ files) (suc i) d lt h =
     file_stands c contents files i d (omega (arith, lt)) (image_back c (extents_of contents file) (flat_map (extents_of contents) files) h)
 
--- A store that is pinned to a history gives the bytes of each of its files, which is whole, at the file's runs.
-pub pinned_file : (terms : Terms) (v : View) (steps : List HistoryStep) (i : ℕ) (d : FileRec) → IsSound v → IsPinned terms v steps → i < length (after terms steps).fields.files
-    → length (bytes_of (after terms steps).contents (get_or (after terms steps).fields.files i d).inode) ≤ (get_or (after terms steps).fields.files i d).cached
-    → AllStand v.content (extents_over (get_or (after terms steps).fields.files i d).runs (bytes_of (after terms steps).contents (get_or (after terms steps).fields.files i d).inode))
-pinned_file terms v steps i d sound pinned lt whole =
-    let file = get_or (after terms steps).fields.files i d in
-    subst (λ (l : List ℕ). AllStand v.content (extents_over file.runs l)) (take_all file.cached (bytes_of (after terms steps).contents file.inode) whole)
-    (file_stands v.content (after terms steps).contents (after terms steps).fields.files i d lt (stand_image v v.content (extents (after terms steps)) pinned.bytes sound.reads_as_image))
+-- The bytes of a file that is one of a site's stand where those of the site do.
+pub listed_stands : (c : Image) (site : Site) (file : FileRec) → Contains site.fields.files file → AllStand c (extents site) → AllStand c (extents_of site.contents file)
+listed_stands c site file listed h = subst (λ (f : FileRec). AllStand c (extents_of site.contents f)) listed.2 (file_stands c site.contents site.fields.files listed.0 file listed.1 h)
 
 -- The piece of each run stands at the run.
 pub piece_stands : (c : Image) (runs : List Run) (i : ℕ) (d : Run) (bytes : List ℕ) → i < length runs → AllStand c (extents_over runs bytes)

@@ -75,8 +75,8 @@ agreeing_below terms c d steps journal files h = record {
 }
 
 -- So they do where they agree in all of the journal's area.
-pub agreeing_read : (terms : Terms) → AgreeingReadAlike terms
-agreeing_read terms terms.size c d steps agree h = agreeing_below terms c d steps agree.0 agree.1 h
+pub agreeing_read : AgreeingReadAlike
+agreeing_read terms c d steps agree h = agreeing_below terms c d steps agree.0 agree.1 h
 
 -- Images with the same bytes everywhere are the same at each extent, and read as the same histories.
 pub same_everywhere : (c d : Image) (es : List Extent) → ((a : ℕ) → Same (c a) (d a)) → SameAt c d es
@@ -84,7 +84,7 @@ same_everywhere c d [] same = tt
 same_everywhere c d (e ∷ es) same = ((λ k lt. sym (same e.area (e.place + k))), same_everywhere c d es same)
 
 pub same_read : (terms : Terms) (c d : Image) (steps : List HistoryStep) → ((a : ℕ) → Same (c a) (d a)) → Reads terms c steps → Reads terms d steps
-same_read terms c d steps same reads = agreeing_read terms terms.size c d steps (λ k lt. sym (same 0 k), same_everywhere c d (extents (after terms steps)) same) reads
+same_read terms c d steps same reads = agreeing_read terms c d steps (λ k lt. sym (same 0 k), same_everywhere c d (extents (after terms steps)) same) reads
 
 -- What stands in whatever a crash leaves still does where it leaves nothing else.
 pub stand_in_fewer : (u v : View) (es : List Extent) → ((a : ℕ) (c : Content) → v.may_leave a c → u.may_leave a c) → StandInAll u es → StandInAll v es

@@ -18,6 +18,7 @@ use Rattle.site_history.specs.PutSteps.{stored_file, inode_for, put_effect}
 use Rattle.site_history.specs.Images.{extents_of, extents}
 use Rattle.site_history.specs.Extents.{Extent, extents_over}
 use Rattle.site_history.specs.Pinned.{StandInAll}
+use Rattle.site_history.proofs.ByteEffects.{stored_inode}
 use Rattle.site_history.proofs.Extents.{stand_append, stand_front, stand_back}
 use Rattle.site_history.proofs.DistinctInodes.{HasNone, AreDistinct}
 use Rattle.site_history.proofs.FileBytesLaws.{bytes_of-with, bytes_of-with_other, bytes_of-without}

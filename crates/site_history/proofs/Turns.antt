@@ -1,8 +1,8 @@
 -- What one event does to a history, in the form of a turn: a lemma for each exit of the code that serves it. First what the
 -- answer to the event is (`put-refused`, `put-stored`, `read-missing`, `read-found`, `remove-missing`, `remove-found`,
--- `configure-refused`, `configure-made`, `other-answer`), and from that the turn: `refused-turn`, `conf-turn` and `line-turn`
--- where no step is made, `full-turn` where the journal has no room, `made-turn` where the step is acknowledged, `owes-turn` where
--- the journal failed, `stays-turn` where another area did, `memory-turn` where memory was wanting.
+-- `configure-refused`, `configure-made`, `other-answer`), and from that the turn: `answer-turn` where no step is made, `full-turn`
+-- where the journal has no room, `made-turn` where the step is acknowledged, `owes-turn` where the journal failed, `stays-turn` where
+-- another area did, `memory-turn` where memory was wanting.
 use Rattle.std.proofs.Common.{◌≡◌, ℕ, ◌+◌, ◌<◌, ◌≤◌, List, [], ◌∷◌, ◌++◌, length, take, refl, sym, ◌∙◌, ap, subst, arith, Bool, true, false, cond, Option, Some, None}
 use Rattle.std.specs.Prelude.{is_none, IsTrue}
 use Rattle.std.proofs.lemmas.Bool.{le-leb, lt-leb, eq-eqb, ne_eqb}
@@ -18,13 +18,12 @@ use Rattle.site_types.specs.declared.file.SiteTexts.{SiteTexts}
 use Rattle.site_types.specs.declared.step.StepKind.{StepKind}
 use Rattle.site_types.specs.declared.step.StepKind.TheVariants.{Configured, Put, Accessed, Removed}
 use Rattle.step_codec.specs.Written.{written}
-use Rattle.configuration.specs.declared.read.FileRefusal.{FileRefusal}
 use Rattle.site_history.specs.Terms.{Terms}
 use Rattle.site_history.specs.Site.{Site, file_at, bytes_of}
 use Rattle.site_history.specs.Steps.{HistoryStep, IsLegal, effect}
 use Rattle.site_history.specs.PutSteps.{inode_for}
 use Rattle.site_history.specs.Histories.{after, journal_length}
-use Rattle.site_history.specs.Answers.{Answer, refused, put_rule, put_step, put_answer_by, read_answer_of, remove_answer_of, bare_step, conf_refused, configure_refusal, configure_answer_by, answer_to}
+use Rattle.site_history.specs.Answers.{Answer, refused, put_rule, put_step, put_answer_by, read_answer_of, remove_answer_of, bare_step, configure_refusal, configure_answer_by, answer_to}
 use Rattle.site_history.specs.Worlds.{World, at, has_room, answer_in, with_step, IsReply, Course, Goes, Stays, Owes, course_of, TurnBy, Turn}
 use Rattle.site_history.proofs.HistoryLaws.{after-push}
 
@@ -131,22 +130,12 @@ module _ (terms : Terms) (told : Bool) (history : List HistoryStep) (event : Eve
     ap (λ (a : Answer). at (with_step history a.step) moment) (sym e),
   )
 
-  -- a rule refuses the event
-  pub refused-turn : (rule : Rule) → answer_to terms (after terms history) moment event ≡ refused rule → Turn terms told history event moment area (Refused rule) (at history moment)
-  refused-turn rule e = goes (refused rule) (Refused rule)
-      (ap (λ (a : Answer). roomed terms history a) e ∙ without_step terms history (refused rule) refl) (is_reply told (Refused rule) (Refused rule) refl)
-
-  -- a command file is wrong
-  pub conf-turn : (refusal : FileRefusal) → answer_to terms (after terms history) moment event ≡ record { reply = conf_refused refusal; step = None }
-      → Turn terms told history event moment area (conf_refused refusal) (at history moment)
-  conf-turn refusal e = goes (record { reply = conf_refused refusal; step = None }) (conf_refused refusal)
-      (ap (λ (a : Answer). roomed terms history a) e ∙ without_step terms history (record { reply = conf_refused refusal; step = None }) refl)
-      (is_reply told (conf_refused refusal) (conf_refused refusal) refl)
-
-  -- it is no command
-  pub line-turn : answer_to terms (after terms history) moment event ≡ no_command → Turn terms told history event moment area (Line NotACommand) (at history moment)
-  line-turn e = goes no_command (Line NotACommand)
-      (ap (λ (a : Answer). roomed terms history a) e ∙ without_step terms history no_command refl) (is_reply told (Line NotACommand) (Line NotACommand) refl)
+  -- the answer makes no step
+  pub answer-turn : (reply : Reply) → answer_to terms (after terms history) moment event ≡ record { reply = reply; step = None } → course_of reply area ≡ Goes
+      → Turn terms told history event moment area reply (at history moment)
+  answer-turn reply e course = subst (λ (c : Course). TurnBy c told (answer_in terms history moment event) history moment reply (at history moment)) (sym course)
+      (goes (record { reply = reply; step = None }) reply
+      (ap (λ (a : Answer). roomed terms history a) e ∙ without_step terms history (record { reply = reply; step = None }) refl) (is_reply told reply reply refl))
 
   -- memory was wanting
   pub memory-turn : Turn terms told history event moment area NoMemory (at history moment)

@@ -8,6 +8,7 @@ use Rattle.site_types.specs.declared.step.PutStep.{PutStep}
 use Rattle.site_types.specs.declared.file.FileRec.{FileRec}
 use Rattle.site_types.specs.declared.file.Run.{Run}
 use Rattle.cache_space.specs.Space.{taken_by, AreApart}
+use Rattle.site_history.specs.Terms.{Terms}
 use Rattle.site_history.specs.Site.{Fields, Site, file_at, held_runs, cache_blocks}
 use Rattle.site_history.specs.Changes.{with_file, without_file, IsThere}
 use Rattle.site_history.specs.PutSteps.{stored_file, IsLegalPut, next_after, put_effect}
@@ -32,7 +33,7 @@ not_there fields inode files same e there =
     ∙ ap (λ (l : List FileRec). list_any (λ (file : FileRec). file.inode == inode) l) same ∙ there in
     cc
 
-module _ (count : ℕ) (site : Site) (orderly : IsOrderly count site) (old : SiteState) (keeps : Keeps old site.fields) where
+module _ (count : ℕ) (fields : Fields) (kept : IsKept count fields) (old : SiteState) (keeps : Keeps old fields) where
   -- the file at the place of an inode
   module _ (inode index : ℕ) (found : position (λ (file : FileRec). file.inode == inode) old.files.list ≡ Some index) where
     at : FirstAt (λ (file : FileRec). file.inode == inode) old.files.list 0 index
@@ -41,58 +42,58 @@ module _ (count : ℕ) (site : Site) (orderly : IsOrderly count site) (old : Sit
     pub inode_within : index < length old.files.list
     inode_within = first-within (λ (file : FileRec). file.inode == inode) old.files.list index at
 
-    within_fields : index < length site.fields.files
+    within_fields : index < length fields.files
     within_fields = subst (λ (l : List FileRec). index < length l) keeps.files inode_within
 
-    here : (d : FileRec) → get_or site.fields.files index d ≡ at.item
+    here : (d : FileRec) → get_or fields.files index d ≡ at.item
     here d = ap (λ (l : List FileRec). get_or l index d) (sym keeps.files) ∙ first-get_or (λ (file : FileRec). file.inode == inode) old.files.list index at d
 
-    of_inode : (get_or site.fields.files index at.item).inode ≡ inode
+    of_inode : (get_or fields.files index at.item).inode ≡ inode
     of_inode = ap (λ (f : FileRec). f.inode) (here at.item) ∙ eqb-true at.item.inode inode at.passes
 
     -- an access is one change in the list
     pub accessed_list : (moment : ℕ) (new : List FileRec)
         → ((file : FileRec) → slice_get old.files.list index ≡ Some file → new ≡ set old.files.list index (record file { accessed = moment }))
-        → new ≡ map (accessed_by moment inode) site.fields.files
+        → new ≡ map (accessed_by moment inode) fields.files
     accessed_list moment new changed =
         changed at.item (first-slice_get (λ (file : FileRec). file.inode == inode) old.files.list index at)
         ∙ ap (λ (l : List FileRec). set l index (record at.item { accessed = moment })) keeps.files
-        ∙ ap (λ (f : FileRec). set site.fields.files index (record f { accessed = moment })) (sym (here at.item))
-        ∙ sym (accessed-set 1 moment inode site.fields.files index at.item orderly.rising within_fields of_inode)
+        ∙ ap (λ (f : FileRec). set fields.files index (record f { accessed = moment })) (sym (here at.item))
+        ∙ sym (accessed-set 1 moment inode fields.files index at.item kept.rising within_fields of_inode)
 
     -- and so is a removal
-    pub removed_list : (new : List FileRec) → new ≡ remove old.files.list index → new ≡ without_file inode site.fields.files
+    pub removed_list : (new : List FileRec) → new ≡ remove old.files.list index → new ≡ without_file inode fields.files
     removed_list new changed =
         changed
         ∙ ap (λ (l : List FileRec). remove l index) keeps.files
-        ∙ sym (without_file-remove 1 inode site.fields.files index at.item orderly.rising within_fields of_inode)
+        ∙ sym (without_file-remove 1 inode fields.files index at.item kept.rising within_fields of_inode)
 
     -- after which the blocks of the file are free
     pub removed_space : (file : FileRec) (space : List Bool) → slice_get old.files.list index ≡ Some file
         → ((total : ℕ) (kept : List Run) → old.space ≡ taken_by total (kept ++ file.runs) → AreApart kept file.runs → space ≡ taken_by total kept)
-        → space ≡ taken_by (cache_blocks site.fields) (held_runs (without_file inode site.fields.files))
+        → space ≡ taken_by (cache_blocks fields) (held_runs (without_file inode fields.files))
     removed_space file space is gives =
         let both : Some file ≡ Some at.item = sym is ∙ first-slice_get (λ (f : FileRec). f.inode == inode) old.files.list index at in
         let one : file ≡ at.item = cc in
-        let runs : (get_or site.fields.files index at.item).runs ≡ file.runs = ap (λ (f : FileRec). f.runs) (here at.item ∙ sym one) in
-        gives (cache_blocks site.fields) (held_runs (remove site.fields.files index))
-        (keeps.space ∙ removed-taken (cache_blocks site.fields) site.fields.files index at.item within_fields
-        ∙ ap (λ (l : List Run). taken_by (cache_blocks site.fields) (held_runs (remove site.fields.files index) ++ l)) runs)
-        (subst (λ (l : List Run). AreApart (held_runs (remove site.fields.files index)) l) runs
-        (removed-apart (cache_blocks site.fields) site.fields.files index at.item within_fields orderly.disjoint))
-        ∙ ap (λ (l : List FileRec). taken_by (cache_blocks site.fields) (held_runs l))
-        (sym (without_file-remove 1 inode site.fields.files index at.item orderly.rising within_fields of_inode))
+        let runs : (get_or fields.files index at.item).runs ≡ file.runs = ap (λ (f : FileRec). f.runs) (here at.item ∙ sym one) in
+        gives (cache_blocks fields) (held_runs (remove fields.files index))
+        (keeps.space ∙ removed-taken (cache_blocks fields) fields.files index at.item within_fields
+        ∙ ap (λ (l : List Run). taken_by (cache_blocks fields) (held_runs (remove fields.files index) ++ l)) runs)
+        (subst (λ (l : List Run). AreApart (held_runs (remove fields.files index)) l) runs
+        (removed-apart (cache_blocks fields) fields.files index at.item within_fields kept.disjoint))
+        ∙ ap (λ (l : List FileRec). taken_by (cache_blocks fields) (held_runs l))
+        (sym (without_file-remove 1 inode fields.files index at.item kept.rising within_fields of_inode))
 
   -- a put that is legal
-  module _ (moment : ℕ) (put : PutStep) (legal : IsLegalPut site.fields put) where
+  module _ (terms : Terms) (moment : ℕ) (put : PutStep) (legal : IsLegalPut fields put) where
     -- the effect of a put where the file of its path is known
-    put_files : (o : Option FileRec) → file_at put.path site.fields.files ≡ o
-        → with_file (stored_file o moment put) site.fields.files ≡ (put_effect moment put site.fields).files
-    put_files o e = ap (λ (x : Option FileRec). with_file (stored_file x moment put) site.fields.files) (sym e)
+    put_files : (o : Option FileRec) → file_at put.path fields.files ≡ o
+        → with_file (stored_file o moment put) fields.files ≡ (put_effect terms moment put fields).files
+    put_files o e = ap (λ (x : Option FileRec). with_file (stored_file x moment put) fields.files) (sym e)
 
-    put_next : (o : Option FileRec) → file_at put.path site.fields.files ≡ o
-        → option_map_or (λ (file : FileRec). site.fields.next_inode) o (site.fields.next_inode + 1) ≡ next_after site.fields put.path
-    put_next o e = ap (λ (x : Option FileRec). option_map_or (λ (file : FileRec). site.fields.next_inode) x (site.fields.next_inode + 1)) (sym e)
+    put_next : (o : Option FileRec) → file_at put.path fields.files ≡ o
+        → option_map_or (λ (file : FileRec). fields.next_inode) o (fields.next_inode + 1) ≡ next_after fields put.path
+    put_next o e = ap (λ (x : Option FileRec). option_map_or (λ (file : FileRec). fields.next_inode) x (fields.next_inode + 1)) (sym e)
 
     -- the path has a file, which is replaced
     module _ (index : ℕ) (found : position (λ (file : FileRec). bytes_eq file.path put.path) old.files.list ≡ Some index) where
@@ -102,33 +103,33 @@ module _ (count : ℕ) (site : Site) (orderly : IsOrderly count site) (old : Sit
       pub path_within : index < length old.files.list
       path_within = first-within (λ (file : FileRec). bytes_eq file.path put.path) old.files.list index at_file
 
-      replaced_within : index < length site.fields.files
+      replaced_within : index < length fields.files
       replaced_within = subst (λ (l : List FileRec). index < length l) keeps.files path_within
 
-      replaced_here : (d : FileRec) → get_or site.fields.files index d ≡ at_file.item
+      replaced_here : (d : FileRec) → get_or fields.files index d ≡ at_file.item
       replaced_here d = ap (λ (l : List FileRec). get_or l index d) (sym keeps.files) ∙ first-get_or (λ (file : FileRec). bytes_eq file.path put.path) old.files.list index at_file d
 
-      there : file_at put.path site.fields.files ≡ Some at_file.item
+      there : file_at put.path fields.files ≡ Some at_file.item
       there = ap (λ (l : List FileRec). file_at put.path l) (sym keeps.files) ∙ file_at-some put.path old.files.list index at_file
 
-      kept_file : IsKept count site.fields.moment site.contents at_file.item
-      kept_file = subst (λ (f : FileRec). IsKept count site.fields.moment site.contents f) (replaced_here at_file.item)
-          (all_at (IsKept count site.fields.moment site.contents) site.fields.files index at_file.item orderly.files replaced_within)
+      kept_file : IsFileKept count fields.moment at_file.item
+      kept_file = subst (λ (f : FileRec). IsFileKept count fields.moment f) (replaced_here at_file.item)
+          (all_at (IsFileKept count fields.moment) fields.files index at_file.item kept.files replaced_within)
 
-      set_with : set site.fields.files index (stored_file (Some at_file.item) moment put) ≡ with_file (stored_file (Some at_file.item) moment put) site.fields.files
-      set_with = sym (with_file-set 1 (stored_file (Some at_file.item) moment put) site.fields.files index at_file.item orderly.rising replaced_within
+      set_with : set fields.files index (stored_file (Some at_file.item) moment put) ≡ with_file (stored_file (Some at_file.item) moment put) fields.files
+      set_with = sym (with_file-set 1 (stored_file (Some at_file.item) moment put) fields.files index at_file.item kept.rising replaced_within
           (ap (λ (f : FileRec). f.inode) (replaced_here at_file.item)))
 
       pub replaced_list : (new : List FileRec) → count + 1 < 2 ^ 64
           → ((file : FileRec) → slice_get old.files.list index ≡ Some file → file.generation + 1 < 2 ^ 64 → new ≡ set old.files.list index (stored_file (Some file) moment put))
-          → new ≡ (put_effect moment put site.fields).files
+          → new ≡ (put_effect terms moment put fields).files
       replaced_list new few changed =
           changed at_file.item (first-slice_get (λ (file : FileRec). bytes_eq file.path put.path) old.files.list index at_file) (omega (arith, few, kept_file.generation))
           ∙ ap (λ (l : List FileRec). set l index (stored_file (Some at_file.item) moment put)) keeps.files
           ∙ set_with
           ∙ put_files (Some at_file.item) there
 
-      pub replaced_next : old.next_inode ≡ next_after site.fields put.path
+      pub replaced_next : old.next_inode ≡ next_after fields put.path
       replaced_next = keeps.next_inode ∙ put_next (Some at_file.item) there
 
       -- once the new runs are held the old ones are given
@@ -136,61 +137,61 @@ module _ (count : ℕ) (site : Site) (orderly : IsOrderly count site) (old : Sit
           → ((file : FileRec) → slice_get old.files.list index ≡ Some file → runs ≡ file.runs)
           → ((total : ℕ) (held : List Run) → old.space ≡ taken_by total held → held_too ≡ taken_by total (held ++ given))
           → ((total : ℕ) (kept : List Run) → held_too ≡ taken_by total (kept ++ runs) → AreApart kept runs → space ≡ taken_by total kept)
-          → space ≡ taken_by (cache_blocks site.fields) (held_runs (put_effect moment put site.fields).files)
+          → space ≡ taken_by (cache_blocks fields) (held_runs (put_effect terms moment put fields).files)
       replaced_space runs given held_too space same of_file holds gives =
           let there_now = first-slice_get (λ (file : FileRec). bytes_eq file.path put.path) old.files.list index at_file in
-          let before : (get_or site.fields.files index at_file.item).runs ≡ runs = ap (λ (f : FileRec). f.runs) (replaced_here at_file.item) ∙ sym (of_file at_file.item there_now) in
+          let before : (get_or fields.files index at_file.item).runs ≡ runs = ap (λ (f : FileRec). f.runs) (replaced_here at_file.item) ∙ sym (of_file at_file.item there_now) in
           let new = stored_file (Some at_file.item) moment put in
-          gives (cache_blocks site.fields) (held_runs (set site.fields.files index new))
-          (holds (cache_blocks site.fields) (held_runs site.fields.files) keeps.space
-          ∙ ap (λ (l : List Run). taken_by (cache_blocks site.fields) (held_runs site.fields.files ++ l)) same
-          ∙ replaced-taken (cache_blocks site.fields) site.fields.files index at_file.item replaced_within new
-          ∙ ap (λ (l : List Run). taken_by (cache_blocks site.fields) (held_runs (set site.fields.files index new) ++ l)) before)
-          (subst (λ (l : List Run). AreApart (held_runs (set site.fields.files index new)) l) before
-          (replaced-apart (cache_blocks site.fields) site.fields.files index at_file.item replaced_within new orderly.disjoint legal.free.1))
-          ∙ ap (λ (l : List FileRec). taken_by (cache_blocks site.fields) (held_runs l)) (set_with ∙ put_files (Some at_file.item) there)
+          gives (cache_blocks fields) (held_runs (set fields.files index new))
+          (holds (cache_blocks fields) (held_runs fields.files) keeps.space
+          ∙ ap (λ (l : List Run). taken_by (cache_blocks fields) (held_runs fields.files ++ l)) same
+          ∙ replaced-taken (cache_blocks fields) fields.files index at_file.item replaced_within new
+          ∙ ap (λ (l : List Run). taken_by (cache_blocks fields) (held_runs (set fields.files index new) ++ l)) before)
+          (subst (λ (l : List Run). AreApart (held_runs (set fields.files index new)) l) before
+          (replaced-apart (cache_blocks fields) fields.files index at_file.item replaced_within new kept.disjoint legal.free.1))
+          ∙ ap (λ (l : List FileRec). taken_by (cache_blocks fields) (held_runs l)) (set_with ∙ put_files (Some at_file.item) there)
 
     -- the path has none: the file is new
     module _ (found : position (λ (file : FileRec). bytes_eq file.path put.path) old.files.list ≡ None) where
       pub not_yet : file_at put.path old.files.list ≡ None
       not_yet = file_at-none put.path old.files.list found
 
-      none : file_at put.path site.fields.files ≡ None
+      none : file_at put.path fields.files ≡ None
       none = ap (λ (l : List FileRec). file_at put.path l) (sym keeps.files) ∙ not_yet
 
-      new_inode : put.inode ≡ site.fields.next_inode
-      new_inode = ((inode_next site.fields put.path put.inode none).0 (legal.inode, legal.fits)).0
+      new_inode : put.inode ≡ fields.next_inode
+      new_inode = ((inode_next fields put.path put.inode none).0 (legal.inode, legal.fits)).0
 
-      new_fits : site.fields.next_inode ≤ 4294967294
-      new_fits = ((inode_next site.fields put.path put.inode none).0 (legal.inode, legal.fits)).1.1
+      new_fits : fields.next_inode ≤ 4294967294
+      new_fits = ((inode_next fields put.path put.inode none).0 (legal.inode, legal.fits)).1.1
 
       -- its inode is above those of the others
       pub new_above : (file : FileRec) → file ≡ stored_file None moment put → All (λ (other : FileRec). other.inode < file.inode) old.files.list
       new_above file is =
-          let inode : file.inode ≡ site.fields.next_inode = ap (λ (f : FileRec). f.inode) is ∙ new_inode in
+          let inode : file.inode ≡ fields.next_inode = ap (λ (f : FileRec). f.inode) is ∙ new_inode in
           subst (λ (l : List FileRec). All (λ (other : FileRec). other.inode < file.inode) l) (sym keeps.files)
-          (λ k d k_in. omega (arith, below_at site.fields.next_inode site.fields.files k d orderly.below k_in, inode))
+          (λ k d k_in. omega (arith, below_at fields.next_inode fields.files k d kept.below k_in, inode))
 
       -- it goes behind the others
-      pub new_list : (file : FileRec) (new : List FileRec) → file ≡ stored_file None moment put → new ≡ old.files.list ++ file ∷ [] → new ≡ (put_effect moment put site.fields).files
+      pub new_list : (file : FileRec) (new : List FileRec) → file ≡ stored_file None moment put → new ≡ old.files.list ++ file ∷ [] → new ≡ (put_effect terms moment put fields).files
       new_list file new is pushed =
           pushed
           ∙ ap (λ (l : List FileRec). l ++ file ∷ []) keeps.files
-          ∙ ap (λ (f : FileRec). site.fields.files ++ f ∷ []) is
-          ∙ sym (with_file-new (stored_file None moment put) site.fields.files (subst (λ (n : ℕ). AreBelow n site.fields.files) (sym new_inode) orderly.below))
+          ∙ ap (λ (f : FileRec). fields.files ++ f ∷ []) is
+          ∙ sym (with_file-new (stored_file None moment put) fields.files (subst (λ (n : ℕ). AreBelow n fields.files) (sym new_inode) kept.below))
           ∙ put_files None none
 
-      pub new_next : (next : ℕ) → next ≡ min (old.next_inode + 1) 4294967295 → next ≡ next_after site.fields put.path
+      pub new_next : (next : ℕ) → next ≡ min (old.next_inode + 1) 4294967295 → next ≡ next_after fields put.path
       new_next next is =
-          let more : next ≡ site.fields.next_inode + 1 = omega (arith, is, keeps.next_inode, new_fits) in
+          let more : next ≡ fields.next_inode + 1 = omega (arith, is, keeps.next_inode, new_fits) in
           more ∙ put_next None none
 
       pub new_space : (given : List Run) (space : List Bool) → given ≡ put.runs
           → ((total : ℕ) (held : List Run) → old.space ≡ taken_by total held → space ≡ taken_by total (held ++ given))
-          → space ≡ taken_by (cache_blocks site.fields) (held_runs (put_effect moment put site.fields).files)
+          → space ≡ taken_by (cache_blocks fields) (held_runs (put_effect terms moment put fields).files)
       new_space given space same holds =
-          holds (cache_blocks site.fields) (held_runs site.fields.files) keeps.space
-          ∙ ap (λ (l : List Run). taken_by (cache_blocks site.fields) (held_runs site.fields.files ++ l)) same
-          ∙ ap (λ (l : List Run). taken_by (cache_blocks site.fields) l) (sym (held-push site.fields.files (stored_file None moment put)))
-          ∙ ap (λ (l : List FileRec). taken_by (cache_blocks site.fields) (held_runs l))
-          (sym (with_file-new (stored_file None moment put) site.fields.files (subst (λ (n : ℕ). AreBelow n site.fields.files) (sym new_inode) orderly.below)) ∙ put_files None none)
+          holds (cache_blocks fields) (held_runs fields.files) keeps.space
+          ∙ ap (λ (l : List Run). taken_by (cache_blocks fields) (held_runs fields.files ++ l)) same
+          ∙ ap (λ (l : List Run). taken_by (cache_blocks fields) l) (sym (held-push fields.files (stored_file None moment put)))
+          ∙ ap (λ (l : List FileRec). taken_by (cache_blocks fields) (held_runs l))
+          (sym (with_file-new (stored_file None moment put) fields.files (subst (λ (n : ℕ). AreBelow n fields.files) (sym new_inode) kept.below)) ∙ put_files None none)

@@ -10,6 +10,7 @@ use Rattle.site_types.specs.declared.file.SiteTexts.{SiteTexts}
 use Rattle.site_types.specs.declared.step.PutStep.{PutStep}
 use Rattle.site_types.specs.declared.step.StepKind.{StepKind}
 use Rattle.site_types.specs.declared.step.StepKind.TheVariants.{Configured, Put, Accessed, Removed}
+use Rattle.site_history.specs.Terms.{Terms}
 use Rattle.site_history.specs.Site.{Fields, file_at}
 use Rattle.site_history.specs.Steps.{IsLegal}
 use Rattle.site_history.specs.PutSteps.{inode_for}
@@ -89,11 +90,11 @@ takes_other fields files path inode next same same_next e differs =
     (λ t. absurd (differs (eqb-true inode next t)), λ both. absurd (differs ((there.0 both).0 ∙ sym same_next)))
 
 -- a step of a kind that is not served never may come
-pub not_served : (fields : Fields) (moment : ℕ) (kind : StepKind) → ((texts : SiteTexts) → kind ≡ Configured texts → ⊥)
+pub not_served : (terms : Terms) (fields : Fields) (moment : ℕ) (kind : StepKind) → ((texts : SiteTexts) → kind ≡ Configured texts → ⊥)
     → ((put : PutStep) → kind ≡ Put put → ⊥)
-    → ((inode : ℕ) → kind ≡ Accessed inode → ⊥) → ((inode : ℕ) → kind ≡ Removed inode → ⊥) → IsLegal fields (record { moment = moment; kind = kind }) → ⊥
-not_served fields moment (Configured texts) configured put accessed removed legal = configured texts refl
-not_served fields moment (Put fields_of_put) configured put accessed removed legal = put fields_of_put refl
-not_served fields moment (Accessed inode) configured put accessed removed legal = accessed inode refl
-not_served fields moment (Removed inode) configured put accessed removed legal = removed inode refl
-not_served fields moment _ configured put accessed removed legal = legal.2
+    → ((inode : ℕ) → kind ≡ Accessed inode → ⊥) → ((inode : ℕ) → kind ≡ Removed inode → ⊥) → IsLegal terms fields (record { moment = moment; kind = kind }) → ⊥
+not_served terms fields moment (Configured texts) configured put accessed removed legal = configured texts refl
+not_served terms fields moment (Put fields_of_put) configured put accessed removed legal = put fields_of_put refl
+not_served terms fields moment (Accessed inode) configured put accessed removed legal = accessed inode refl
+not_served terms fields moment (Removed inode) configured put accessed removed legal = removed inode refl
+not_served terms fields moment _ configured put accessed removed legal = legal.2

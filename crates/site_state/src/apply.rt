@@ -1,17 +1,18 @@
 //! What a step changes of a site.
 
-ghost use Rattle.std.specs.Prelude.{◌≡◌, ◌+◌, ◌<◌, ◌^◌, List as Seq, [], None, length};
+ghost use Rattle.std.specs.Prelude.{◌≡◌, ℕ, ◌+◌, ◌<◌, ◌^◌, [], None};
+ghost use Rattle.site_history.specs.Terms.{Terms};
 ghost use Rattle.site_types.specs.Ranges.{IsInode};
 ghost use Rattle.step_codec.specs.Written.{InRange};
 ghost use Rattle.site_types.specs.declared.file.SiteTexts.{SiteTexts};
 ghost use Rattle.site_history.specs.Site.{Fields, file_at};
-ghost use Rattle.site_history.specs.Steps.{HistoryStep, IsLegal, fields_after};
+ghost use Rattle.site_history.specs.Steps.{IsLegal, dated, fields_after};
 ghost use Rattle.site_history.specs.ConfiguredSteps.{configured_effect};
 ghost use Rattle.site_history.specs.RemovedSteps.{removed_effect};
 ghost use Rattle.site_history.specs.AccessedSteps.{accessed_effect};
 ghost use Rattle.site_history.specs.Changes.{IsThere};
 ghost use Rattle.site_history.specs.PutSteps.{IsLegalPut, put_effect};
-ghost use Rattle.site_history.specs.Histories.{after, IsHistory};
+ghost use Rattle.site_history.specs.Kept.{IsKept};
 ghost use Rattle.site_state.specs.Room.{IsSettingOf, IsPrepared};
 ghost use Rattle.site_state.specs.Keeps.{Keeps};
 
@@ -26,8 +27,8 @@ impl SiteState {
         requires range { moment < 2 ^ 40 }
         requires inode { IsInode put.inode }
         requires room { file_at put.path self.old.files.list ≡ None → 0 < self.old.files.room }
-        ensures { (steps : Seq HistoryStep) → IsHistory steps → length steps + 1 < 2 ^ 64 → Keeps self.old (after steps).fields → IsLegalPut (after steps).fields put
-            → Keeps self.new (put_effect moment put (after steps).fields) }
+        ensures { (terms : Terms) (count : ℕ) (fields : Fields) → IsKept count fields → count + 1 < 2 ^ 64 → Keeps self.old fields → IsLegalPut fields put
+            → Keeps self.new (dated moment (put_effect terms moment put fields)) }
     {
         self.moment = moment;
         self.space.hold(put.runs.as_slice());
@@ -47,8 +48,8 @@ impl SiteState {
     // Keeps that a file was read.
     fn apply_access(&mut self, moment: u64, inode: u32)
         requires range { moment < 2 ^ 40 }
-        ensures { (steps : Seq HistoryStep) → IsHistory steps → Keeps self.old (after steps).fields → IsThere (after steps).fields inode
-            → Keeps self.new (accessed_effect moment inode (after steps).fields) }
+        ensures { (count : ℕ) (fields : Fields) → IsKept count fields → Keeps self.old fields → IsThere fields inode
+            → Keeps self.new (dated moment (accessed_effect moment inode fields)) }
     {
         self.moment = moment;
         if let Some(index) = self.files.find_inode(inode) {
@@ -59,8 +60,8 @@ impl SiteState {
     // Keeps that a file is gone, and frees its runs.
     fn apply_removal(&mut self, moment: u64, inode: u32)
         requires range { moment < 2 ^ 40 }
-        ensures { (steps : Seq HistoryStep) → IsHistory steps → Keeps self.old (after steps).fields → IsThere (after steps).fields inode
-            → Keeps self.new (removed_effect moment inode (after steps).fields) }
+        ensures { (count : ℕ) (fields : Fields) → IsKept count fields → Keeps self.old fields → IsThere fields inode
+            → Keeps self.new (dated moment (removed_effect inode fields)) }
     {
         self.moment = moment;
         if let Some(index) = self.files.find_inode(inode) {
@@ -73,7 +74,7 @@ impl SiteState {
     fn apply_setting(&mut self, moment: u64, setting: Setting)
         requires range { moment < 2 ^ 40 }
         ensures { (fields : Fields) (texts : SiteTexts) → Keeps self.old fields → fields.files ≡ [] → IsSettingOf texts setting
-            → Keeps self.new (configured_effect moment texts fields) }
+            → Keeps self.new (dated moment (configured_effect texts fields)) }
     {
         self.moment = moment;
         self.configuration = setting.configuration;
@@ -84,8 +85,8 @@ impl SiteState {
     pub fn apply(&mut self, prepared: Prepared)
         requires range { InRange prepared.step }
         requires prepared { IsPrepared self.old prepared }
-        ensures { (steps : Seq HistoryStep) → IsHistory steps → length steps + 1 < 2 ^ 64 → Keeps self.old (after steps).fields → IsLegal (after steps).fields prepared.step
-            → Keeps self.new (fields_after prepared.step (after steps).fields) }
+        ensures { (terms : Terms) (count : ℕ) (fields : Fields) → IsKept count fields → count + 1 < 2 ^ 64 → Keeps self.old fields → IsLegal terms fields prepared.step
+            → Keeps self.new (fields_after terms prepared.step fields) }
     {
         let Prepared { step, setting } = prepared;
         let Step { moment, kind } = step;

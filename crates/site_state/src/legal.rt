@@ -1,6 +1,7 @@
 //! Which steps may come.
 
 ghost use Rattle.std.specs.Prelude.{◌≡◌, ◌<◌, ◌≤◌, ◌↔◌, ℕ, IsTrue, MatchOption, length};
+ghost use Rattle.site_history.specs.Terms.{Terms};
 ghost use Rattle.base.specs.Paths.{is_legal_path, is_legal_name};
 ghost use Rattle.step_codec.specs.Written.{InRange};
 ghost use Rattle.cache_space.specs.Blocks.{blocks_for};
@@ -8,7 +9,7 @@ ghost use Rattle.cache_space.specs.Space.{AreFree, AreMaximal, blocks_in};
 ghost use Rattle.site_history.specs.Site.{Fields, file_at, held_runs, cache_blocks};
 ghost use Rattle.site_history.specs.PutSteps.{inode_for};
 ghost use Rattle.site_history.specs.Changes.{IsThere};
-ghost use Rattle.site_state.specs.Legal.{MayCome, AreTextsWithin};
+ghost use Rattle.site_state.specs.Legal.{IsLegalSoFar, AreTextsWithin};
 ghost use Rattle.site_state.specs.Keeps.{Keeps};
 
 use crate::state::SiteState;
@@ -72,7 +73,7 @@ impl SiteState {
 
     /// Whether a step may come, before the texts of a configuration are read. A step of a kind that is not served never may.
     pub fn may_come(&self, step: &Step) -> bool
-        ensures test { (fields : Fields) → Keeps self.now fields → InRange step.now → (IsTrue result ↔ MayCome fields step.now) }
+        ensures test { (terms : Terms) (fields : Fields) → Keeps self.now fields → InRange step.now → (IsTrue result ↔ IsLegalSoFar terms fields step.now) }
         ensures within { IsTrue result → AreTextsWithin step.now }
     {
         if step.moment < self.moment {

@@ -20,7 +20,7 @@ use std::alloc::AllocError;
 impl SiteState {
     /// What the command files say.
     pub fn configuration(&self) -> &Configuration
-        ensures said { (fields : Fields) → Keeps self.now fields → Says fields.texts result.now }
+        ensures said { (fields : Fields) → Keeps self.now fields → result.now ≡ fields.configuration }
         ensures kept { result.now ≡ self.now.configuration }
     {
         &self.configuration

@@ -1,6 +1,7 @@
 //! Steps with what their making takes memory for.
 
 ghost use Rattle.std.specs.Prelude.{◌≡◌, None, IfOk, IfErr, IfSome, OnOk, MatchOption};
+ghost use Rattle.site_history.specs.Terms.{Terms};
 ghost use Rattle.step_codec.specs.Written.{InRange};
 ghost use Rattle.configuration.specs.ConfigurationRules.{AreWithin};
 ghost use Rattle.configuration.specs.ConfigurationSteps.{refusal_of, TellsRefusal};
@@ -54,7 +55,7 @@ impl SiteState {
     /// kept.
     pub fn prepare(&mut self, alloc: Global, step: Step) -> Result<Option<Prepared>, AllocError>
         requires { InRange step }
-        ensures legal { (fields : Fields) → Keeps self.old fields → IfOk result (λ made. MatchOption made (IsLegal fields step → ⊥) (λ _. IsLegal fields step)) }
+        ensures legal { (terms : Terms) (fields : Fields) → Keeps self.old fields → IfOk result (λ made. MatchOption made (IsLegal terms fields step → ⊥) (λ _. IsLegal terms fields step)) }
         ensures prepared { IfOk result (λ made. IfSome made (λ prepared. (prepared.step ≡ step) × IsPrepared self.new prepared)) }
         ensures keeps { (fields : Fields) → Keeps self.old fields → Keeps self.new fields }
     {

@@ -1,10 +1,10 @@
 //! The steps of a journal, made again.
 
-ghost use Rattle.std.specs.Prelude.{◌≡◌, ◌+◌, ◌<◌, ◌^◌, List as Seq, length, IfOk, IfErr, IfSome, OnOk};
+ghost use Rattle.std.specs.Prelude.{ℕ, ◌≡◌, ◌+◌, ◌<◌, ◌^◌, List as Seq, length, IfOk, IfErr, IfSome, OnOk};
+ghost use Rattle.site_history.specs.Terms.{Terms};
 ghost use Rattle.step_codec.specs.Written.{InRange};
 ghost use Rattle.site_history.specs.Site.{Fields, first_fields};
-ghost use Rattle.site_history.specs.Steps.{HistoryStep};
-ghost use Rattle.site_history.specs.Histories.{after, IsHistory};
+ghost use Rattle.site_history.specs.Kept.{IsKept};
 ghost use Rattle.site_state.specs.Replays.{IsRead, IsReplayed, TellsPayload};
 ghost use Rattle.site_state.specs.Room.{IsPrepared};
 ghost use Rattle.site_state.specs.Keeps.{Keeps};
@@ -46,7 +46,7 @@ impl SiteState {
 
     // Prepares the step that a payload is the written form of, if it is one that may come next. The site keeps what it kept.
     fn next_step(&mut self, alloc: Global, payload: &[u8]) -> Result<Option<Prepared>, AllocError>
-        ensures read { (fields : Fields) → Keeps self.old fields → IfOk result (IsRead fields payload.now) }
+        ensures read { (terms : Terms) (fields : Fields) → Keeps self.old fields → IfOk result (IsRead terms fields payload.now) }
         ensures prepared { IfOk result (λ read. IfSome read (λ prepared. InRange prepared.step × IsPrepared self.new prepared)) }
         ensures keeps { (fields : Fields) → Keeps self.old fields → Keeps self.new fields }
     {
@@ -59,9 +59,9 @@ impl SiteState {
 
     /// Makes the step of which a payload of a journal is the written form, if it may come behind the history so far.
     pub fn replay(&mut self, alloc: Global, payload: &[u8]) -> Result<(), ReplayRefusal>
-        ensures made { (steps : Seq HistoryStep) → IsHistory steps → length steps + 1 < 2 ^ 64 → Keeps self.old (after steps).fields
-            → OnOk result (IsReplayed (after steps).fields payload.now self.new) }
-        ensures refused { (fields : Fields) → Keeps self.old fields → IfErr result (TellsPayload fields payload.now) }
+        ensures made { (terms : Terms) (count : ℕ) (fields : Fields) → IsKept count fields → count + 1 < 2 ^ 64 → Keeps self.old fields
+            → OnOk result (IsReplayed terms fields payload.now self.new) }
+        ensures refused { (terms : Terms) (fields : Fields) → Keeps self.old fields → IfErr result (TellsPayload terms fields payload.now) }
     {
         match self.next_step(alloc, payload) {
             Ok(Some(prepared)) => {

@@ -2,7 +2,6 @@ use Rattle.std.proofs.Common.{subst}
 use Rattle.step_codec.proofs.InRange.{ranges}
 use Rattle.site_types.specs.Ranges.{Ranges}
 use Rattle.site_types.specs.declared.step.StepKind.{StepKind}
-use Rattle.site_history.specs.Histories.{after}
 use Rattle.site_state.proofs.Legality.{not_served}
 use Rattle.site_state.proofs.state.SiteState.apply.Goals as goal
 
@@ -22,5 +21,5 @@ pub apply_setting-requires : goal.apply_setting-requires
 apply_setting-requires c = record { range = (ranges c.args.prepared.step c.requires.range).0 }
 
 pub returns : goal.returns
-returns c = λ steps history few keeps legal.
-    absurd (not_served (after steps).fields c.args.prepared.step.moment c.args.prepared.step.kind c.in_default.not-Configured c.in_default.not-Put c.in_default.not-Accessed c.in_default.not-Removed legal)
+returns c = λ terms count fields kept few keeps legal.
+    absurd (not_served terms fields c.args.prepared.step.moment c.args.prepared.step.kind c.in_default.not-Configured c.in_default.not-Put c.in_default.not-Accessed c.in_default.not-Removed legal)
