@@ -22,9 +22,9 @@ use Rattle.site_state.specs.Keeps.{Keeps}
 use Rattle.engine.specs.StandsFor.{IsInStep, StandsFor, Moves}
 use Rattle.engine.specs.Ready.{IsReady, owing}
 
-module _ {B P : Type 0} (told : Bool) (view : B → View) (old new : Engine B P) (history : List HistoryStep) (made : HistoryStep) (ready : IsReady told view old history made) where
+module _ {B P : Type 0} (told : Bool) (view : B → View) (old new : Engine B P) (history : List HistoryStep) (made : HistoryStep) (ready : IsReady terms told view old history made) where
   -- the engine is in step with the history
-  in_step_now : IsInStep old history
+  in_step_now : IsInStep terms old history
   in_step_now = (ready.stands.in_step ready.stands.due).1
 
   -- the journal goes on where the history's records end
@@ -35,35 +35,35 @@ module _ {B P : Type 0} (told : Bool) (view : B → View) (old new : Engine B P)
   pub count_is : old.journal.count ≡ length history
   count_is = in_step_now.count
 
-  pub keeps_now : Keeps old.site (after history).fields
+  pub keeps_now : Keeps old.site (after terms history).fields
   keeps_now = in_step_now.keeps
 
   -- each image reads as the history, and whatever a crash leaves holds it
-  pub pinned_now : IsTrue told → IsSound (view old.bank) → IsPinned old.journal.size (view old.bank) history
-  pinned_now t sound = pinned_by_world old.journal.size (view old.bank) (at history old.clock) sound refl (ready.stands.images t)
+  pub pinned_now : IsTrue told → IsSound (view old.bank) → IsPinned terms old.journal.size (view old.bank) history
+  pinned_now t sound = pinned_by_world terms old.journal.size (view old.bank) (at history old.clock) sound refl (ready.stands.images t)
 
   -- also the history that the step makes
-  history_then : IsHistory (history ++ made ∷ [])
-  history_then = history-push history made ready.stands.history ready.legal ready.bytes
+  history_then : IsHistory terms (history ++ made ∷ [])
+  history_then = history-push terms history made ready.stands.history ready.legal ready.bytes
 
-  bytes_then : IsTrue told → IsSound (view old.bank) → StandInAll (view old.bank) (extents (effect made (after history)))
-  bytes_then t sound = step_ready old.journal.size (view old.bank) history made ready.stands.history (pinned_now t sound) ready.legal ready.bytes (ready.stored t)
+  bytes_then : IsTrue told → IsSound (view old.bank) → StandInAll (view old.bank) (extents (effect terms made (after terms history)))
+  bytes_then t sound = step_ready terms old.journal.size (view old.bank) history made ready.stands.history (pinned_now t sound) ready.legal ready.bytes (ready.stored t)
 
   module _ (clock : new.clock ≡ old.clock) (size : new.journal.size ≡ old.journal.size) (sound : IsTrue told → IsSound (view old.bank)) (sound_then : IsTrue told → IsSound (view new.bank))
       (moments : IsTrue told → LeavesOnly (view old.bank) (view new.bank) (IsBeforeOrAfter (view old.bank) (written_forms history) old.payload.items old.journal.size)) where
-    either_way : IsTrue told → LeavesOnly (view old.bank) (view new.bank) (λ c. Reads old.journal.size c history ⊎ Reads old.journal.size c (history ++ made ∷ []))
-    either_way t = commit_moments old.journal.size (view old.bank) (view new.bank) history made ready.stands.history ready.legal ready.bytes (pinned_now t (sound t)) (bytes_then t (sound t))
+    either_way : IsTrue told → LeavesOnly (view old.bank) (view new.bank) (λ c. Reads terms old.journal.size c history ⊎ Reads terms old.journal.size c (history ++ made ∷ []))
+    either_way t = commit_moments terms old.journal.size (view old.bank) (view new.bank) history made ready.stands.history ready.legal ready.bytes (pinned_now t (sound t)) (bytes_then t (sound t))
         old.payload.items ready.form (moments t)
 
     -- the journal failed: the step is owed
     module _ (steps : new.steps ≡ old.steps) (due : new.due ≡ true) where
-      owing_images : IsTrue told → (c : Image) → IsImage (view new.bank) c → ReadsAs new.journal.size (owing history old.clock made) c
-      owing_images t c image = subst (λ (n : ℕ). ReadsAs n (owing history old.clock made) c) (sym size)
+      owing_images : IsTrue told → (c : Image) → IsImage (view new.bank) c → ReadsAs terms new.journal.size (owing history old.clock made) c
+      owing_images t c image = subst (λ (n : ℕ). ReadsAs terms n (owing history old.clock made) c) (sym size)
           (⊎_elim (λ was. inl was) (λ is. inr (made, refl, is))
-          (commit_faulted old.journal.size (view old.bank) (view new.bank) history made ready.stands.history ready.legal ready.bytes (pinned_now t (sound t)) (bytes_then t (sound t))
+          (commit_faulted terms old.journal.size (view old.bank) (view new.bank) history made ready.stands.history ready.legal ready.bytes (pinned_now t (sound t)) (bytes_then t (sound t))
           old.payload.items ready.form (sound_then t) (moments t) c image))
 
-      pub owed_stands : StandsFor told view new (owing history old.clock made)
+      pub owed_stands : StandsFor terms told view new (owing history old.clock made)
       owed_stands = record {
         history = ready.stands.history;
         steps = steps ∙ ready.stands.steps;
@@ -76,47 +76,47 @@ module _ {B P : Type 0} (told : Bool) (view : B → View) (old new : Engine B P)
         images = owing_images;
       }
 
-      pub owed_moves : Moves told view old new (at history old.clock) (owing history old.clock made)
+      pub owed_moves : Moves terms told view old new (at history old.clock) (owing history old.clock made)
       owed_moves = record {
         stands = owed_stands;
-        moments = λ t. weakened (view old.bank) (view new.bank) (λ c. Reads old.journal.size c history ⊎ Reads old.journal.size c (history ++ made ∷ []))
-            (λ c. ReadsAs old.journal.size (at history old.clock) c ⊎ ReadsAs old.journal.size (owing history old.clock made) c) (either_way t)
+        moments = λ t. weakened (view old.bank) (view new.bank) (λ c. Reads terms old.journal.size c history ⊎ Reads terms old.journal.size c (history ++ made ∷ []))
+            (λ c. ReadsAs terms old.journal.size (at history old.clock) c ⊎ ReadsAs terms old.journal.size (owing history old.clock made) c) (either_way t)
             (λ c reads. ⊎_elim (λ was. inl (inl was)) (λ is. inr (inr (made, refl, is))) reads);
       }
 
     -- the record is acknowledged: the step is made
     module _ (steps : new.steps ≡ old.journal.count + 1) (count : new.journal.count ≡ old.journal.count + 1) (place : new.journal.place ≡ old.journal.place + 5 + length old.payload.items)
-        (due : new.due ≡ false) (keeps : Keeps new.site (fields_after made.step (after history).fields))
+        (due : new.due ≡ false) (keeps : Keeps new.site (fields_after terms made.step (after terms history).fields))
         (holds : IsTrue told → AllHold (view new.bank) (written_forms history ++ old.payload.items ∷ []) old.journal.size)
         (wrote : IsTrue told → Wrote 0 old.journal.place (6 + length old.payload.items) (view old.bank) (view new.bank)) where
-      pinned_then : IsTrue told → IsPinned old.journal.size (view new.bank) (history ++ made ∷ [])
-      pinned_then t = commit_pinned old.journal.size (view old.bank) (view new.bank) history made ready.stands.history ready.legal ready.bytes (pinned_now t (sound t)) (bytes_then t (sound t))
+      pinned_then : IsTrue told → IsPinned terms old.journal.size (view new.bank) (history ++ made ∷ [])
+      pinned_then t = commit_pinned terms old.journal.size (view old.bank) (view new.bank) history made ready.stands.history ready.legal ready.bytes (pinned_now t (sound t)) (bytes_then t (sound t))
           old.payload.items ready.form old.journal.place (holds t) (wrote t)
 
-      pub made_stands : StandsFor told view new (at (history ++ made ∷ []) old.clock)
+      pub made_stands : StandsFor terms told view new (at (history ++ made ∷ []) old.clock)
       made_stands = record {
         history = history_then;
         steps = omega (arith, steps, count_is, length-push history made);
         clock = clock;
-        in_time = omega (arith, moment-push history made ready.legal, ready.moment);
+        in_time = omega (arith, moment-push terms history made ready.legal, ready.moment);
         owed_in_time = λ owed e. absurd (let no : None ≡ Some owed = e in cc);
         range = ready.stands.range;
         due = due;
         in_step = λ not_due. (
           refl,
           record {
-            keeps = subst (λ (s : Site). Keeps new.site s.fields) (sym (after-push history made)) keeps;
+            keeps = subst (λ (s : Site). Keeps new.site s.fields) (sym (after-push terms history made)) keeps;
             count = omega (arith, count, count_is, length-push history made);
             place = omega (arith, place, in_step_now.place, journal_length-push history made, ap length ready.form);
           },
         );
-        images = λ t c image. inl (subst (λ (n : ℕ). Reads n c (history ++ made ∷ [])) (sym size) (image_reads old.journal.size (view new.bank) c (history ++ made ∷ []) history_then (pinned_then t) image));
+        images = λ t c image. inl (subst (λ (n : ℕ). Reads terms n c (history ++ made ∷ [])) (sym size) (image_reads terms old.journal.size (view new.bank) c (history ++ made ∷ []) history_then (pinned_then t) image));
       }
 
-      pub made_moves : Moves told view old new (at history old.clock) (at (history ++ made ∷ []) old.clock)
+      pub made_moves : Moves terms told view old new (at history old.clock) (at (history ++ made ∷ []) old.clock)
       made_moves = record {
         stands = made_stands;
-        moments = λ t. weakened (view old.bank) (view new.bank) (λ c. Reads old.journal.size c history ⊎ Reads old.journal.size c (history ++ made ∷ []))
-            (λ c. ReadsAs old.journal.size (at history old.clock) c ⊎ ReadsAs old.journal.size (at (history ++ made ∷ []) old.clock) c) (either_way t)
+        moments = λ t. weakened (view old.bank) (view new.bank) (λ c. Reads terms old.journal.size c history ⊎ Reads terms old.journal.size c (history ++ made ∷ []))
+            (λ c. ReadsAs terms old.journal.size (at history old.clock) c ⊎ ReadsAs terms old.journal.size (at (history ++ made ∷ []) old.clock) c) (either_way t)
             (λ c reads. ⊎_elim (λ was. inl (inl was)) (λ is. inr (inl is)) reads);
       }

@@ -1,11 +1,9 @@
-pub mod Found
 pub mod Turning
 pub mod Reading
 pub mod Standing
 pub mod Pieces
 pub mod Committing
-pub mod Removing
-pub mod Configuring
-pub mod Accessing
-pub mod Putting
+pub mod Replies
+pub mod Loading
+pub mod Making
 pub mod Serving

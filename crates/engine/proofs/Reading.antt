@@ -14,6 +14,7 @@ use Rattle.site_types.specs.declared.step.Step.{Step}
 use Rattle.site_types.specs.declared.step.StepKind.{StepKind}
 use Rattle.site_types.specs.declared.step.StepKind.TheVariants.{Put}
 use Rattle.step_codec.specs.Written.{written}
+use Rattle.site_history.specs.Terms.{Terms}
 use Rattle.site_history.specs.Site.{Site, first_fields}
 use Rattle.site_history.specs.Steps.{HistoryStep, HasBytes}
 use Rattle.site_history.specs.Histories.{after, written_forms}
@@ -42,32 +43,32 @@ found_before u v old new found only finds over =
 
 -- A journal has no byte of a file: a put that was read stands for one of zeros.
 abbrev zeros_of : StepKind → List ℕ
-zeros_of (Put put) = replicate put.length 0
+zeros_of (Put inode path owner group size runs) = replicate size 0
 zeros_of _ = []
 
 abbrev with_zeros : Step → HistoryStep
 with_zeros step = record { step = step; bytes = zeros_of step.kind }
 
 zeros_fit : (moment : ℕ) (kind : StepKind) → HasBytes (with_zeros (record { moment = moment; kind = kind }))
-zeros_fit moment (Put put) = length-replicate put.length 0
+zeros_fit moment (Put inode path owner group size runs) = length-replicate size 0
 zeros_fit moment _ = refl
 
 -- before the first record
-pub read_none : (told : Bool) (c : Content) (reader : ReaderState) (site : SiteState) → Keeps site first_fields → reader.place ≡ 0 → reader.count ≡ 0 → IsReadUpTo told c reader site
-read_none told c reader site keeps place count = record { steps = []; history = tt; keeps = keeps; count = count; place = place; records = λ t. tt }
+pub read_none : (terms : Terms) (told : Bool) (c : Content) (reader : ReaderState) (site : SiteState) → Keeps site first_fields → reader.place ≡ 0 → reader.count ≡ 0 → IsReadUpTo terms told c reader site
+read_none terms told c reader site keeps place count = record { steps = []; history = tt; keeps = keeps; count = count; place = place; records = λ t. tt }
 
-module _ (told : Bool) (c : Content) (old new : ReaderState) (site : SiteState) (so_far : IsReadUpTo told c old site) where
+module _ (terms : Terms) (told : Bool) (c : Content) (old new : ReaderState) (site : SiteState) (so_far : IsReadUpTo terms told c old site) where
   -- one record more, of a step that may come
   pub read_more : (next : SiteState) → GoesOn old new Record → new.size ≡ old.size → (IsTrue told → IsRecord c old.place new.payload old.size)
-      → IsStepReplayed (after so_far.steps).fields new.payload next → IsReadUpTo told c new next
+      → IsStepReplayed terms (after terms so_far.steps).fields new.payload next → IsReadUpTo terms told c new next
   read_more next on size here made =
       let step : HistoryStep = with_zeros made.step in
       let longer : written_forms (so_far.steps ++ step ∷ []) ≡ written_forms so_far.steps ++ new.payload ∷ [] =
       written_forms-push so_far.steps step ∙ ap (λ (p : List ℕ). written_forms so_far.steps ++ p ∷ []) (sym made.form) in
       record {
         steps = so_far.steps ++ step ∷ [];
-        history = history-push so_far.steps step so_far.history made.legal (zeros_fit made.step.moment made.step.kind);
-        keeps = subst (λ (s : Site). Keeps next s.fields) (sym (after-push so_far.steps step)) made.keeps;
+        history = history-push terms so_far.steps step so_far.history made.legal (zeros_fit made.step.moment made.step.kind);
+        keeps = subst (λ (s : Site). Keeps next s.fields) (sym (after-push terms so_far.steps step)) made.keeps;
         count = omega (arith, on.3, so_far.count, length-append so_far.steps (step ∷ []));
         place = on.1 ∙ ap (λ (n : ℕ). n + 5 + length new.payload) so_far.place ∙ sym (end-push 0 (written_forms so_far.steps) new.payload) ∙ ap (λ (l : List (List ℕ)). end_of 0 l) (sym longer);
         records = λ t. subst (λ (n : ℕ). AreRecords c 0 (written_forms (so_far.steps ++ step ∷ [])) n) (sym size)
@@ -77,7 +78,7 @@ module _ (told : Bool) (c : Content) (old new : ReaderState) (site : SiteState) 
       }
 
   -- or of none: the journal is bad there
-  pub bad_step : IsTrue told → IsRecord c old.place new.payload old.size → IsOfNoStep (after so_far.steps).fields new.payload → IsBadJournal old.size c old.place
+  pub bad_step : IsTrue told → IsRecord c old.place new.payload old.size → IsOfNoStep terms (after terms so_far.steps).fields new.payload → IsBadJournal terms old.size c old.place
   bad_step t here refused = record {
     steps = so_far.steps;
     history = so_far.history;
@@ -85,13 +86,13 @@ module _ (told : Bool) (c : Content) (old new : ReaderState) (site : SiteState) 
   }
 
   -- and so it is where a length is one that no record has
-  pub bad_length : IsTrue told → IsFound c old new BadLength → IsBadJournal old.size c old.place
+  pub bad_length : IsTrue told → IsFound c old new BadLength → IsBadJournal terms old.size c old.place
   bad_length t found = record { steps = so_far.steps; history = so_far.history; bad = inl (found (written_forms so_far.steps) (so_far.records t) so_far.place) }
 
 -- the journal ends behind the history
-pub read_to_end : (told : Bool) (c : Content) (old new : ReaderState) (site : SiteState) (h : IsReadUpTo told c old site) → GoesOn old new End → new.size ≡ old.size → (IsTrue told → IsFound c old new End)
-    → IsReadToEnd told c new site
-read_to_end told c old new site h on size ends = record {
+pub read_to_end : (terms : Terms) (told : Bool) (c : Content) (old new : ReaderState) (site : SiteState) (h : IsReadUpTo terms told c old site) → GoesOn old new End → new.size ≡ old.size → (IsTrue told → IsFound c old new End)
+    → IsReadToEnd terms told c new site
+read_to_end terms told c old new site h on size ends = record {
   so_far = record {
     steps = h.steps;
     history = h.history;
@@ -104,9 +105,9 @@ read_to_end told c old new site h on size ends = record {
 }
 
 -- the journal goes on behind the history
-pub replayed : (told : Bool) (c : Content) (journal : JournalState) (reader : ReaderState) (site : SiteState) (h : IsReadToEnd told c reader site)
-    → journal.count ≡ reader.count → journal.place ≡ reader.place → IsReplayed journal site h.so_far.steps
-replayed told c journal reader site h count place = record {
+pub replayed : (terms : Terms) (told : Bool) (c : Content) (journal : JournalState) (reader : ReaderState) (site : SiteState) (h : IsReadToEnd terms told c reader site)
+    → journal.count ≡ reader.count → journal.place ≡ reader.place → IsReplayed terms journal site h.so_far.steps
+replayed terms told c journal reader site h count place = record {
   history = h.so_far.history;
   keeps = h.so_far.keeps;
   count = count ∙ h.so_far.count;
@@ -114,8 +115,8 @@ replayed told c journal reader site h count place = record {
 }
 
 -- whose records the area holds
-pub held : (told : Bool) (c : Content) (reader : ReaderState) (site : SiteState) (h : IsReadToEnd told c reader site) → IsTrue told → HoldsRecords c 0 (written_forms h.so_far.steps) reader.size
-held told c reader site h t = record {
+pub held : (terms : Terms) (told : Bool) (c : Content) (reader : ReaderState) (site : SiteState) (h : IsReadToEnd terms told c reader site) → IsTrue told → HoldsRecords c 0 (written_forms h.so_far.steps) reader.size
+held terms told c reader site h t = record {
   records = h.so_far.records t;
   shut = subst (λ (n : ℕ). IsEnd c n reader.size) h.so_far.place (h.shut t);
 }

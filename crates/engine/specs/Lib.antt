@@ -3,3 +3,4 @@ pub mod Replayed
 pub mod Journals
 pub mod Ready
 pub mod Counts
+pub mod Served

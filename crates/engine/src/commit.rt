@@ -1,6 +1,7 @@
 //! A step's record.
 
 ghost use Rattle.std.specs.Prelude.{◌≡◌, ◌+◌, ◌++◌, ◌∷◌, [], ◌≤◌, true, false, Bool, List as Seq, IsTrue, length, OnOk, OnErr};
+ghost use Rattle.site_history.specs.Terms.{Terms};
 ghost use Rattle.base.specs.Causes.{Rose};
 ghost use Rattle.step_codec.specs.Written.{InRange};
 ghost use Rattle.journal.specs.Records.{IsPayload};
@@ -25,11 +26,11 @@ impl<B: Bank, P: Drop> Engine<B, P> {
         requires range { InRange prepared.step }
         requires prepared { IsPrepared self.old.site prepared }
         // At `Ok` the step is acknowledged: the engine stands for the history with it.
-        ensures made { (told : Bool) → (IsTrue told → IsTrue B.tells) → (history : Seq HistoryStep) → (made : HistoryStep) → made.step ≡ prepared.step → IsReady told B.view self.old history made
-            → OnOk result (Moves told B.view self.old self.new (at history self.old.clock) (at (history ++ made ∷ []) self.old.clock)) }
+        ensures made { (told : Bool) → (IsTrue told → IsTrue B.tells) → (history : Seq HistoryStep) → (made : HistoryStep) → made.step ≡ prepared.step → IsReady terms told B.view self.old history made
+            → OnOk result (Moves terms told B.view self.old self.new (at history self.old.clock) (at (history ++ made ∷ []) self.old.clock)) }
         // At an error the step is owed.
-        ensures owed { (told : Bool) → (IsTrue told → IsTrue B.tells) → (history : Seq HistoryStep) → (made : HistoryStep) → made.step ≡ prepared.step → IsReady told B.view self.old history made
-            → OnErr result (Moves told B.view self.old self.new (at history self.old.clock) (owing history self.old.clock made)) }
+        ensures owed { (told : Bool) → (IsTrue told → IsTrue B.tells) → (history : Seq HistoryStep) → (made : HistoryStep) → made.step ≡ prepared.step → IsReady terms told B.view self.old history made
+            → OnErr result (Moves terms told B.view self.old self.new (at history self.old.clock) (owing history self.old.clock made)) }
         ensures fault { OnErr result (Rose (B.faults self.old.bank) (B.faults self.new.bank)) }
         ensures journal_fault { OnErr result (Rose (B.journal_faults self.old.bank) (B.journal_faults self.new.bank)) }
         ensures area { OnErr result (B.last_fault self.new.bank ≡ 0) }

@@ -1,6 +1,7 @@
 //! Events over a store.
 
 ghost use Rattle.std.specs.Prelude.{◌≡◌, ◌≢◌, ◌≤◌, ◌<◌, ◌^◌, ℕ, [], false, true, length, IfOk, IfErr, MatchResult, IsTrue, OnOk, OnErr, Bool, List};
+ghost use Rattle.site_history.specs.Terms.{Terms};
 ghost use Rattle.base.specs.Causes.{Rose};
 ghost use Rattle.bank.specs.Content.{Content};
 ghost use Rattle.bank.specs.View.{OnlyRead};
@@ -15,12 +16,14 @@ ghost use Rattle.site_history.specs.Journals.{HoldsHistory};
 ghost use Rattle.engine.specs.StandsFor.{StandsFor, Moves, IsRecovered, StaysFor};
 ghost use Rattle.engine.specs.Journals.{TellsJournal, RepliesJournal};
 ghost use Rattle.engine.specs.Counts.{IsRepliedFor};
+ghost use Rattle.engine.specs.Served.{IsServed};
 
 use crate::kept::Engine;
 use crate::reopen::read_site;
 use bank::Bank;
 use configuration::Configuration;
-use site_events::{Event, LineRefusal, Reply};
+use decisions::decide;
+use site_events::{Event, Reply};
 use std::alloc::Global;
 
 /// The last moment, in seconds.
@@ -59,16 +62,16 @@ impl<B: Bank, P: Drop> Engine<B, P> {
     ) -> Result<Engine<B, P>, Shut<B, P>>
         requires { journal_bytes ≤ 268435456 }
         // It stands for the history for which the store is settled; for that of the journal where the store tells nothing.
-        ensures stands { (told : Bool) → (IsTrue told → IsTrue B.tells) → (before : List HistoryStep) → (IsTrue told → IsSettled journal_bytes (B.view bank) before)
-            → IfOk result (λ engine. (found : List HistoryStep) × IsFound told before found × StandsFor told B.view engine (new_world found)) }
+        ensures stands { (told : Bool) → (IsTrue told → IsTrue B.tells) → (before : List HistoryStep) → (IsTrue told → IsSettled terms journal_bytes (B.view bank) before)
+            → IfOk result (λ engine. (found : List HistoryStep) × IsFound terms told before found × StandsFor terms told B.view engine (new_world terms found)) }
         // Whatever the store is settled for, it stands for the history that the journal holds.
-        ensures held { IfOk result (λ engine. (found : List HistoryStep) × StandsFor false B.view engine (new_world found) × (IsTrue B.tells → HoldsHistory journal_bytes ((B.view bank).content 0) found)) }
+        ensures held { IfOk result (λ engine. (found : List HistoryStep) × StandsFor terms false B.view engine (new_world terms found) × (IsTrue B.tells → HoldsHistory terms journal_bytes ((B.view bank).content 0) found)) }
         ensures ready { IfOk result (λ engine. engine.due ≡ false) }
         ensures size { IfOk result (λ engine. engine.journal.size ≡ journal_bytes) }
         ensures unchanged { IsTrue B.tells → MatchResult result (λ engine. OnlyRead (B.view bank) (B.view engine.bank)) (λ shut. OnlyRead (B.view bank) (B.view shut.bank)) }
         // The journal holds a history, or it is bad at a place.
-        ensures journal { IsTrue B.tells → IfOk result (λ engine. (found : List HistoryStep) × HoldsHistory journal_bytes ((B.view bank).content 0) found) }
-        ensures bad_journal { IsTrue B.tells → IfErr result (λ shut. TellsJournal journal_bytes ((B.view bank).content 0) shut.refusal) }
+        ensures journal { IsTrue B.tells → IfOk result (λ engine. (found : List HistoryStep) × HoldsHistory terms journal_bytes ((B.view bank).content 0) found) }
+        ensures bad_journal { IsTrue B.tells → IfErr result (λ shut. TellsJournal terms journal_bytes ((B.view bank).content 0) shut.refusal) }
         ensures fault { IfErr result (λ shut. shut.refusal ≡ ShutCause.BankFault → Rose (B.faults bank) (B.faults shut.bank)) }
         ensures later { MatchResult result (λ engine. B.faults bank ≤ B.faults engine.bank) (λ shut. B.faults bank ≤ B.faults shut.bank) }
         ensures journal_later { MatchResult result (λ engine. B.journal_faults bank ≤ B.journal_faults engine.bank) (λ shut. B.journal_faults bank ≤ B.journal_faults shut.bank) }
@@ -103,14 +106,14 @@ impl<B: Bank, P: Drop> Engine<B, P> {
 
     // Reads the site again, which is due, and keeps it. On an error nothing is changed but the store.
     fn recover(&mut self) -> Result<(), Reply>
-        ensures recovered { (told : Bool) → (IsTrue told → IsTrue B.tells) → (w : World) → StandsFor told B.view self.old w → self.old.due ≡ true
-            → MatchResult result (λ _. IsRecovered told B.view self.old self.new w) (λ reply. RefusesReopening told reply × StaysFor told B.view self.old self.new w) }
+        ensures recovered { (told : Bool) → (IsTrue told → IsTrue B.tells) → (w : World) → StandsFor terms told B.view self.old w → self.old.due ≡ true
+            → MatchResult result (λ _. IsRecovered terms told B.view self.old self.new w) (λ reply. RefusesReopening told reply × StaysFor terms told B.view self.old self.new w) }
         ensures ok { OnOk result (self.new.due ≡ false) }
         ensures err { OnErr result (self.new ≡ record self.old { bank = self.new.bank }) }
         ensures size { self.new.journal.size ≡ self.old.journal.size }
         ensures patterns { self.new.patterns ≡ self.old.patterns }
         ensures unchanged { IsTrue B.tells → OnlyRead (B.view self.old.bank) (B.view self.new.bank) }
-        ensures bad_journal { IsTrue B.tells → IfErr result (RepliesJournal self.old.journal.size ((B.view self.new.bank).content 0)) }
+        ensures bad_journal { IsTrue B.tells → IfErr result (RepliesJournal terms self.old.journal.size ((B.view self.new.bank).content 0)) }
         ensures later { B.faults self.old.bank ≤ B.faults self.new.bank }
         ensures journal_later { B.journal_faults self.old.bank ≤ B.journal_faults self.new.bank }
         ensures causes { IfErr result (IsRepliedFor B.faults B.journal_faults B.last_fault self.old.bank self.new.bank) }
@@ -132,16 +135,16 @@ impl<B: Bank, P: Drop> Engine<B, P> {
 
     /// One event. Its moment is the greater of the clock and the lesser of `now` and 2^40 - 1. Where a reopening is due it
     /// comes first, and leads to the history that the journal holds when it is called.
-    pub fn event(&mut self, event: &Event, now: u64) -> Reply
-        ensures turn { (told : Bool) → (IsTrue told → IsTrue B.tells) → (w : World) → StandsFor told B.view self.old w
-            → (w' : World) × EventTurn self.old.journal.size told w event.now now (B.last_fault self.new.bank) ((B.view self.old.bank).content 0) result w' × Moves told B.view self.old self.new w w' }
-        ensures wrong_file { (told : Bool) → (IsTrue told → IsTrue B.tells) → (w : World) → StandsFor told B.view self.old w → (texts : Texts) → event.now ≡ ConfigureEvent texts
-            → TellsConfiguration self.old.journal.size told w ((B.view self.old.bank).content 0) texts result }
+    pub fn event(&mut self, event: Event, now: u64) -> Reply
+        ensures turn { (told : Bool) → (IsTrue told → IsTrue B.tells) → (w : World) → StandsFor terms told B.view self.old w
+            → (w' : World) × EventTurn terms self.old.journal.size told w event now (B.last_fault self.new.bank) ((B.view self.old.bank).content 0) result w' × Moves terms told B.view self.old self.new w w' }
+        ensures wrong_file { (told : Bool) → (IsTrue told → IsTrue B.tells) → (w : World) → StandsFor terms told B.view self.old w → (texts : Texts) → event ≡ ConfigureEvent texts
+            → TellsConfiguration terms self.old.journal.size told w ((B.view self.old.bank).content 0) texts result }
         ensures fault { result ≡ Reply.BankFault → Rose (B.faults self.old.bank) (B.faults self.new.bank) }
         ensures journal_fault { result ≡ Reply.BankFault → B.last_fault self.new.bank ≡ 0 → Rose (B.journal_faults self.old.bank) (B.journal_faults self.new.bank) }
         ensures later { B.faults self.old.bank ≤ B.faults self.new.bank }
         ensures journal_later { B.journal_faults self.old.bank ≤ B.journal_faults self.new.bank }
-        ensures bad_journal { IsTrue B.tells → RepliesJournal self.old.journal.size ((B.view self.new.bank).content 0) result }
+        ensures bad_journal { IsTrue B.tells → RepliesJournal terms self.old.journal.size ((B.view self.new.bank).content 0) result }
         ensures ready { self.old.due ≡ false → result ≢ Reply.BankFault → self.new.due ≡ false }
         ensures size { self.new.journal.size ≡ self.old.journal.size }
         ensures patterns { self.new.patterns ≡ self.old.patterns }
@@ -149,71 +152,38 @@ impl<B: Bank, P: Drop> Engine<B, P> {
     {
         if self.due {
             match self.recover() {
-                Ok(()) => self.serve_at(event, now),
+                Ok(()) => self.serve(event, now),
                 Err(reply) => reply,
             }
         } else {
-            self.serve_at(event, now)
+            self.serve(event, now)
         }
     }
 
     // One event, where no reopening is due.
-    fn serve_at(&mut self, event: &Event, now: u64) -> Reply
+    fn serve(&mut self, event: Event, now: u64) -> Reply
         requires { self.old.due ≡ false }
-        ensures turn { (told : Bool) → (IsTrue told → IsTrue B.tells) → (history : List HistoryStep) (clock : ℕ) → StandsFor told B.view self.old (at history clock)
-            → (w : World) × Turn self.old.journal.size told history event.now (moment_of clock now) (B.last_fault self.new.bank) result w × Moves told B.view self.old self.new (at history clock) w }
-        ensures causes { IsRepliedFor B.faults B.journal_faults B.last_fault self.old.bank self.new.bank result }
-        ensures ready { result ≢ Reply.BankFault → self.new.due ≡ false }
-        ensures journal { (size : ℕ) (c : Content) → RepliesJournal size c result }
-        ensures size { self.new.journal.size ≡ self.old.journal.size }
-        ensures patterns { self.new.patterns ≡ self.old.patterns }
-        ensures moment { IsTrue B.tells → (B.view self.old.bank).moment ≤ (B.view self.new.bank).moment }
+        ensures turn { (told : Bool) → (IsTrue told → IsTrue B.tells) → (history : List HistoryStep) (clock : ℕ) → StandsFor terms told B.view self.old (at history clock)
+            → (w : World) × Turn terms self.old.journal.size told history event (moment_of clock now) (B.last_fault self.new.bank) result w × Moves terms told B.view self.old self.new (at history clock) w }
+        ensures served { IsServed terms B.tells B.view B.faults B.journal_faults B.last_fault self.old self.new result }
     {
         self.clock = self.clock.max(now.min(LAST_MOMENT));
-        self.serve(event)
-    }
-
-    // One event, whose moment is the clock.
-    fn serve(&mut self, event: &Event) -> Reply
-        requires { self.old.due ≡ false }
-        ensures turn { (told : Bool) → (IsTrue told → IsTrue B.tells) → (history : List HistoryStep) → StandsFor told B.view self.old (at history self.old.clock)
-            → (w : World) × Turn self.old.journal.size told history event.now self.old.clock (B.last_fault self.new.bank) result w × Moves told B.view self.old self.new (at history self.old.clock) w }
-        ensures causes { IsRepliedFor B.faults B.journal_faults B.last_fault self.old.bank self.new.bank result }
-        ensures ready { result ≢ Reply.BankFault → self.new.due ≡ false }
-        ensures journal { (size : ℕ) (c : Content) → RepliesJournal size c result }
-        ensures size { self.new.journal.size ≡ self.old.journal.size }
-        ensures patterns { self.new.patterns ≡ self.old.patterns }
-        ensures moment { IsTrue B.tells → (B.view self.old.bank).moment ≤ (B.view self.new.bank).moment }
-    {
-        match event {
-            Event::Put {
-                path,
-                owner,
-                group,
-                bytes,
-            } => self.put(
-                path.as_slice(),
-                owner.as_slice(),
-                group.as_slice(),
-                bytes.as_slice(),
-            ),
-            Event::Read { path, upto } => self.read(path.as_slice(), *upto),
-            Event::Remove { path } => self.remove(path.as_slice()),
-            Event::Configure { texts } => self.configure(texts),
-            _ => Reply::Line(LineRefusal::NotACommand),
+        match decide(&mut self.site, self.alloc, event, self.clock) {
+            Ok(plan) => self.perform(plan),
+            Err(_) => Reply::NoMemory,
         }
     }
 
     /// How many steps were acknowledged.
     pub fn steps(&self) -> u64
-        ensures { (told : Bool) (w : World) → StandsFor told B.view self.now w → result ≡ length w.history }
+        ensures { (told : Bool) (w : World) → StandsFor terms told B.view self.now w → result ≡ length w.history }
     {
         self.steps
     }
 
     /// What the command files of the site say. Where a reopening is due they may be others than those of the history.
     pub fn configuration(&self) -> &Configuration
-        ensures said { (told : Bool) (w : World) → StandsFor told B.view self.now w → self.now.due ≡ false → Says (after w.history).fields.texts result.now }
+        ensures said { (told : Bool) (w : World) → StandsFor terms told B.view self.now w → self.now.due ≡ false → Says (after terms w.history).fields.texts result.now }
         ensures kept { result.now ≡ self.now.site.configuration }
     {
         self.site.configuration()

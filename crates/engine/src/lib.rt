@@ -2,15 +2,13 @@
 #![tactic(auto)]
 
 mod commit;
-mod configure;
 mod data;
 mod engine;
 mod kept;
 mod payload;
-mod put;
-mod read;
-mod remove;
+mod perform;
 mod reopen;
+mod work;
 
 pub use configuration::{Configuration, read_texts};
 pub use engine::{Shut, ShutCause};

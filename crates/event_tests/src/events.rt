@@ -109,7 +109,7 @@ fn served(
         let Ok(event) = event_of(alloc, row) else {
             panic!(rt; "no memory");
         };
-        let reply = engine.event(&event, 1);
+        let reply = engine.event(event, 1);
         expect(rt, alloc, &reply, row.expected);
     }
     let steps = engine.steps();

@@ -78,7 +78,7 @@ fn configure<B: Bank, P: Drop, F: Folder>(
     ensures patterns { engine.new.patterns ≡ engine.old.patterns }
 {
     match read_texts(alloc, folder) {
-        Ok(texts) => engine.event(&Event::Configure { texts }, now),
+        Ok(texts) => engine.event(Event::Configure { texts }, now),
         Err(FolderFault::Failed) => Reply::FolderFault,
         Err(FolderFault::NoMemory) => Reply::NoMemory,
         Err(FolderFault::NoFile) => unreachable!(),
@@ -112,7 +112,7 @@ fn respond<B: Bank, P: Drop, F: Folder>(
         Err(refusal) => return refused(refusal),
     };
     match asked {
-        Asked::One(event) => engine.event(&event, *now),
+        Asked::One(event) => engine.event(event, *now),
         Asked::At(moment) => {
             *now = moment.max(*now);
             Reply::At(*now)

@@ -13,10 +13,10 @@ use Rattle.engine.proofs.kept.Engine.commit.Goals as goal
 pub returns-in-Ok-clause-made : goal.returns-in-Ok-clause-made
 returns-in-Ok-clause-made g c = λ told tells history made is ready.
     let same : c.deref.result.now ≡ c.args.self.now.payload.items = c.deref.ensures.value in
-    let place = at_end told g.B.Bank.view c.args.self.now c.args.self.now history made ready in
-    let holds = λ (t : IsTrue told). (pinned_now told g.B.Bank.view c.args.self.now c.args.self.now history made ready t (g.met.B.Bank.sound _ (tells t))).records in
-    let few : length history + 1 < 2 ^ 64 = omega (arith, c.count-self.ensures, c.count-self.type_inv, count_is told g.B.Bank.view c.args.self.now c.args.self.now history made ready, c.in-Ok.ensures.count) in
-    made_moves told g.B.Bank.view c.args.self.now _ history made ready refl c.in-Ok.ensures.size
+    let place = at_end terms told g.B.Bank.view c.args.self.now c.args.self.now history made ready in
+    let holds = λ (t : IsTrue told). (pinned_now terms told g.B.Bank.view c.args.self.now c.args.self.now history made ready t (g.met.B.Bank.sound _ (tells t))).records in
+    let few : length history + 1 < 2 ^ 64 = omega (arith, c.count-self.ensures, c.count-self.type_inv, count_is terms told g.B.Bank.view c.args.self.now c.args.self.now history made ready, c.in-Ok.ensures.count) in
+    made_moves terms told g.B.Bank.view c.args.self.now _ history made ready refl c.in-Ok.ensures.size
     (λ t. g.met.B.Bank.sound _ (tells t)) (λ t. g.met.B.Bank.sound _ (tells t))
     (λ t. subst (λ (l : List ℕ). LeavesOnly (g.B.Bank.view c.args.self.now.bank) (g.B.Bank.view c.append.new.bank)
     (IsBeforeOrAfter (g.B.Bank.view c.args.self.now.bank) (written_forms history) l c.args.self.now.journal.size)) same
@@ -24,8 +24,8 @@ returns-in-Ok-clause-made g c = λ told tells history made is ready.
     (c.count-self.ensures ∙ c.in-Ok.ensures.count.1 ∙ c.in-Ok.ensures.count.0) (c.in-Ok.ensures.count.1 ∙ c.in-Ok.ensures.count.0)
     (c.in-Ok.ensures.place ∙ ap (λ (l : List ℕ). c.args.self.now.journal.place + 5 + length l) same)
     c.requires.ready
-    (subst (λ (s : Step). Keeps c.apply.new.self (fields_after s (after history).fields)) (sym is)
-    (c.apply.ensures history ready.stands.history few (keeps_now told g.B.Bank.view c.args.self.now c.args.self.now history made ready) (subst (λ (s : Step). IsLegal (after history).fields s) is ready.legal)))
+    (subst (λ (s : Step). Keeps c.apply.new.self (fields_after terms s (after terms history).fields)) (sym is)
+    (c.apply.ensures history ready.stands.history few (keeps_now terms told g.B.Bank.view c.args.self.now c.args.self.now history made ready) (subst (λ (s : Step). IsLegal terms (after terms history).fields s) is ready.legal)))
     (λ t. subst (λ (l : List ℕ). AllHold (g.B.Bank.view c.append.new.bank) (written_forms history ++ l ∷ []) c.args.self.now.journal.size) same
     (c.in-Ok.ensures.acknowledged (tells t) (written_forms history) place (holds t)))
     (λ t. subst (λ (l : List ℕ). Wrote 0 c.args.self.now.journal.place (6 + length l) (g.B.Bank.view c.args.self.now.bank) (g.B.Bank.view c.append.new.bank)) same (c.in-Ok.ensures.wrote (tells t)))
@@ -33,11 +33,11 @@ returns-in-Ok-clause-made g c = λ told tells history made is ready.
 pub returns-in-Err-BankFault-clause-owed : goal.returns-in-Err-BankFault-clause-owed
 returns-in-Err-BankFault-clause-owed g c = λ told tells history made is ready.
     let same : c.deref.result.now ≡ c.args.self.now.payload.items = c.deref.ensures.value in
-    let place = at_end told g.B.Bank.view c.args.self.now c.args.self.now history made ready in
-    owed_moves told g.B.Bank.view c.args.self.now _ history made ready refl (ap (λ (j : JournalState). j.size) c.in-Err-BankFault.ensures.err)
+    let place = at_end terms told g.B.Bank.view c.args.self.now c.args.self.now history made ready in
+    owed_moves terms told g.B.Bank.view c.args.self.now _ history made ready refl (ap (λ (j : JournalState). j.size) c.in-Err-BankFault.ensures.err)
     (λ t. g.met.B.Bank.sound _ (tells t)) (λ t. g.met.B.Bank.sound _ (tells t))
     (λ t. subst (λ (l : List ℕ). LeavesOnly (g.B.Bank.view c.args.self.now.bank) (g.B.Bank.view c.append.new.bank)
     (IsBeforeOrAfter (g.B.Bank.view c.args.self.now.bank) (written_forms history) l c.args.self.now.journal.size)) same
     (c.in-Err-BankFault.ensures.any_moment (tells t) (written_forms history) place
-    (pinned_now told g.B.Bank.view c.args.self.now c.args.self.now history made ready t (g.met.B.Bank.sound _ (tells t))).records))
+    (pinned_now terms told g.B.Bank.view c.args.self.now c.args.self.now history made ready t (g.met.B.Bank.sound _ (tells t))).records))
     refl refl

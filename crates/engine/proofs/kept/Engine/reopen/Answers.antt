@@ -9,7 +9,7 @@ returns-in_default-clause-unchanged g c = λ told. nothing_read _ (g.met.B.Bank.
 pub returns-in-Ok-read_site-clause-stands : goal.returns-in-Ok-read_site-clause-stands
 returns-in-Ok-read_site-clause-stands g c = λ told tells before settled.
     let read = c.in-Ok-read_site.ensures.read in
-    opened told g.B.Bank.view before c.args.journal_bytes (g.B.Bank.view c.args.bank) _ read.0 read.1 c.count.ensures refl refl c.in-Ok-read_site.ensures.size settled
+    opened terms told g.B.Bank.view before c.args.journal_bytes (g.B.Bank.view c.args.bank) _ read.0 read.1 c.count.ensures refl refl c.in-Ok-read_site.ensures.size settled
     (λ t. c.in-Ok-read_site.ensures.unchanged (tells t))
     (λ t. c.in-Ok-read_site.ensures.durable (tells t))
     (λ t. read.2 (tells t))
@@ -18,15 +18,15 @@ pub returns-in-Ok-read_site-clause-held : goal.returns-in-Ok-read_site-clause-he
 returns-in-Ok-read_site-clause-held g c =
     let read = c.in-Ok-read_site.ensures.read in (
       read.0,
-      stands_read g.B.Bank.view _ read.0 read.1 c.count.ensures refl refl,
-      λ told. holds_before c.args.journal_bytes (g.B.Bank.view c.args.bank) (g.B.Bank.view c.read_site.new.bank) read.0 (c.in-Ok-read_site.ensures.unchanged told) read.1.history (read.2 told),
+      stands_read terms g.B.Bank.view _ read.0 read.1 c.count.ensures refl refl,
+      λ told. holds_before terms c.args.journal_bytes (g.B.Bank.view c.args.bank) (g.B.Bank.view c.read_site.new.bank) read.0 (c.in-Ok-read_site.ensures.unchanged told) read.1.history (read.2 told),
     )
 
 pub returns-in-Ok-read_site-clause-journal : goal.returns-in-Ok-read_site-clause-journal
 returns-in-Ok-read_site-clause-journal g c = λ told.
     let read = c.in-Ok-read_site.ensures.read in
-    (read.0, holds_before c.args.journal_bytes (g.B.Bank.view c.args.bank) (g.B.Bank.view c.read_site.new.bank) read.0 (c.in-Ok-read_site.ensures.unchanged told) read.1.history (read.2 told))
+    (read.0, holds_before terms c.args.journal_bytes (g.B.Bank.view c.args.bank) (g.B.Bank.view c.read_site.new.bank) read.0 (c.in-Ok-read_site.ensures.unchanged told) read.1.history (read.2 told))
 
 pub returns-in-Err-clause-bad_journal : goal.returns-in-Err-clause-bad_journal
 returns-in-Err-clause-bad_journal g c = λ told.
-    tells_before c.args.journal_bytes (g.B.Bank.view c.args.bank) (g.B.Bank.view c.read_site.new.bank) c.in-Err.cause (c.in-Err.ensures.unchanged told) (c.in-Err.ensures.bad told)
+    tells_before terms c.args.journal_bytes (g.B.Bank.view c.args.bank) (g.B.Bank.view c.read_site.new.bank) c.in-Err.cause (c.in-Err.ensures.unchanged told) (c.in-Err.ensures.bad told)
