@@ -22,8 +22,8 @@ use Rattle.site_history.specs.Answers.{Answer, answer_to}
 use Rattle.site_history.specs.Images.{extents, Reads, ReadsAs}
 use Rattle.site_history.specs.Extents.{extents_over, AllStand}
 use Rattle.site_history.specs.Pinned.{StandInAll, IsPinned, IsClearOf, in_blocks_of}
-use Rattle.site_history.proofs.SiteLaws.{orderly}
-use Rattle.site_history.proofs.Answered.{MayCome, StepMayCome, answered}
+use Rattle.site_history.proofs.KeptLaws.{after_kept}
+use Rattle.site_history.proofs.Answered.{MayBeMade, StepMayBeMade, answered}
 use Rattle.site_history.proofs.ImageLaws.{image_reads, stand_image}
 use Rattle.site_history.proofs.Extents.{site_clear}
 use Rattle.site_history.proofs.Reopenings.{pinned_by_world}
@@ -41,16 +41,16 @@ use Rattle.engine.proofs.Turning.{stands_still, moves_behind}
 
 -- The runs of a step that may come are apart from those that files hold.
 runs_apart : (terms : Terms) (fields : Fields) (moment : ℕ) (kind : StepKind) → IsLegal terms fields (record { moment = moment; kind = kind }) → AreApart (put_runs (record { moment = moment; kind = kind })) (held_runs fields.files)
-runs_apart terms fields moment (Put inode path owner group size runs) legal = legal.2.free.1
+runs_apart terms fields moment (Put put) legal = legal.2.free.1
 runs_apart terms fields moment _ legal = λ block inside. absurd (let no : false ≡ true = inside in cc)
 
 -- What a step stores are its bytes at its runs.
-step_stands : (v : View) (moment : ℕ) (kind : StepKind) (bytes : List ℕ) → StandInAll v (extents_over (put_runs (record { moment = moment; kind = kind })) bytes)
-    → StandInAll v (put_extents (record { step = record { moment = moment; kind = kind }; bytes = bytes }))
-step_stands v moment (Put inode path owner group size runs) bytes stand = stand
-step_stands v moment _ bytes stand = tt
+step_stands : (v : View) (site : Site) (moment : ℕ) (kind : StepKind) (bytes : List ℕ) → StandInAll v (extents_over (put_runs (record { moment = moment; kind = kind })) bytes)
+    → StandInAll v (step_extents (record { step = record { moment = moment; kind = kind }; bytes = bytes }) site)
+step_stands v site moment (Put put) bytes stand = stand
+step_stands v site moment _ bytes stand = tt
 
-module _ {B P : Type 0} (told : Bool) (view : B → View) (engine : Engine B P) (history : List HistoryStep) (stands : StandsFor terms told view engine (at history engine.clock)) where
+module _ (terms : Terms) {B P : Type 0} (told : Bool) (view : B → View) (engine : Engine B P) (history : List HistoryStep) (stands : StandsFor terms told view engine (at history engine.clock)) where
   -- what the engine keeps is what the history leaves
   pub keeps_it : Keeps engine.site (after terms history).fields
   keeps_it = (stands.in_step stands.due).1.keeps
@@ -59,8 +59,8 @@ module _ {B P : Type 0} (told : Bool) (view : B → View) (engine : Engine B P) 
   pub place_it : engine.journal.place ≡ journal_length history
   place_it = (stands.in_step stands.due).1.place
 
-  pinned_before : IsTrue told → IsSound (view engine.bank) → IsPinned terms engine.journal.size (view engine.bank) history
-  pinned_before t sound = pinned_by_world terms engine.journal.size (view engine.bank) (at history engine.clock) sound refl (stands.images t)
+  pinned_before : IsTrue told → IsSound (view engine.bank) → IsPinned terms (view engine.bank) history
+  pinned_before t sound = pinned_by_world terms (view engine.bank) (at history engine.clock) sound refl (stands.images t)
 
   -- the bytes of its files are read at their places
   pub bytes_stand : IsTrue told → IsSound (view engine.bank) → AllStand (view engine.bank).content (extents (after terms history))
@@ -77,25 +77,25 @@ module _ {B P : Type 0} (told : Bool) (view : B → View) (engine : Engine B P) 
     pub plan_answered : answer_to terms (after terms history) engine.clock event ≡ record { reply = reply_by; step = Some made_by }
     plan_answered = ap (λ (o : Option HistoryStep). let a : Answer = record { reply = reply_by; step = o } in a) of.0
 
-    pub plan_may : MayCome (after terms history) engine.clock made_by
-    plan_may = subst (λ (o : Option HistoryStep). StepMayCome (after terms history) engine.clock o) of.0
-        (answered terms (length history) (after terms history) (orderly history stands.history) engine.clock stands.in_time engine.range event)
+    pub plan_may : MayBeMade terms (after terms history) engine.clock made_by
+    plan_may = subst (λ (o : Option HistoryStep). StepMayBeMade terms (after terms history) engine.clock o) of.0
+        (answered terms (length history) (after terms history) (after_kept terms history stands.history) engine.clock stands.in_time engine.range event)
 
   -- The engine once the work is done, failed or not: only its store and its buffer changed, and only blocks of the step's runs were
   -- written.
-  module _ (made : HistoryStep) (may : MayCome (after terms history) engine.clock made) (mid : Engine B P) (keeps : (fields : Fields) → Keeps engine.site fields → Keeps mid.site fields)
+  module _ (made : HistoryStep) (may : MayBeMade terms (after terms history) engine.clock made) (mid : Engine B P) (keeps : (fields : Fields) → Keeps engine.site fields → Keeps mid.site fields)
       (journal : mid.journal ≡ engine.journal) (steps : mid.steps ≡ engine.steps) (clock : mid.clock ≡ engine.clock) (due : mid.due ≡ engine.due) (sound : IsTrue told → IsSound (view engine.bank))
       (wrote : IsTrue told → WroteInside 1 (in_blocks_of (put_runs made.step)) (view engine.bank) (view mid.bank)) where
     clear : IsClearOf 1 (in_blocks_of (put_runs made.step)) (extents (after terms history))
     clear = site_clear (put_runs made.step) (after terms history) (runs_apart terms (after terms history).fields made.step.moment made.step.kind may.legal)
 
-    images_still : IsTrue told → (c : Image) → IsImage (view mid.bank) c → ReadsAs terms engine.journal.size (at history engine.clock) c
-    images_still t c image = inl (image_reads terms engine.journal.size (view mid.bank) c history stands.history
-        (still_pinned terms 1 (in_blocks_of (put_runs made.step)) engine.journal.size (view engine.bank) (view mid.bank) history (λ e. absurd (omega (arith, e))) clear (pinned_before t (sound t)) (wrote t)) image)
+    images_still : IsTrue told → (c : Image) → IsImage (view mid.bank) c → ReadsAs terms (at history engine.clock) c
+    images_still t c image = inl (image_reads terms (view mid.bank) c history stands.history
+        (still_pinned 1 (in_blocks_of (put_runs made.step)) terms (view engine.bank) (view mid.bank) history (λ e. absurd (omega (arith, e))) clear (pinned_before t (sound t)) (wrote t)) image)
 
-    moments_still : IsTrue told → LeavesOnly (view engine.bank) (view mid.bank) (ReadsAs terms engine.journal.size (at history engine.clock))
-    moments_still t = weakened (view engine.bank) (view mid.bank) (λ c. Reads terms engine.journal.size c history) (ReadsAs terms engine.journal.size (at history engine.clock))
-        (still_reads terms 1 (in_blocks_of (put_runs made.step)) engine.journal.size (view engine.bank) (view mid.bank) history (λ e. absurd (omega (arith, e))) clear (pinned_before t (sound t)) (wrote t) stands.history)
+    moments_still : IsTrue told → LeavesOnly (view engine.bank) (view mid.bank) (ReadsAs terms (at history engine.clock))
+    moments_still t = weakened (view engine.bank) (view mid.bank) (λ c. Reads terms c history) (ReadsAs terms (at history engine.clock))
+        (still_reads 1 (in_blocks_of (put_runs made.step)) terms (view engine.bank) (view mid.bank) history (λ e. absurd (omega (arith, e))) clear (pinned_before t (sound t)) (wrote t) stands.history)
         (λ c reads. inl reads)
 
     mid_stands : StandsFor terms told view mid (at history engine.clock)
@@ -105,8 +105,8 @@ module _ {B P : Type 0} (told : Bool) (view : B → View) (engine : Engine B P) 
     pub work_stays : Moves terms told view engine mid (at history engine.clock) (at history engine.clock)
     work_stays = record {
       stands = mid_stands;
-      moments = λ t. weakened (view engine.bank) (view mid.bank) (ReadsAs terms engine.journal.size (at history engine.clock))
-          (λ c. ReadsAs terms engine.journal.size (at history engine.clock) c ⊎ ReadsAs terms engine.journal.size (at history engine.clock) c) (moments_still t) (λ c reads. inl reads);
+      moments = λ t. weakened (view engine.bank) (view mid.bank) (ReadsAs terms (at history engine.clock))
+          (λ c. ReadsAs terms (at history engine.clock) c ⊎ ReadsAs terms (at history engine.clock) c) (moments_still t) (λ c reads. inl reads);
     }
 
     module _ (form : mid.payload.items ≡ written made.step) (stored : IsTrue told → StandInAll (view mid.bank) (extents_over (put_runs made.step) made.bytes)) where
@@ -117,11 +117,11 @@ module _ {B P : Type 0} (told : Bool) (view : B → View) (engine : Engine B P) 
         bytes = may.bytes;
         form = form;
         moment = may.moment_is ∙ sym clock;
-        stored = λ t. step_stands (view mid.bank) made.step.moment made.step.kind made.bytes (stored t);
+        stored = λ t. step_stands (view mid.bank) (after terms history) made.step.moment made.step.kind made.bytes (stored t);
       }
 
       behind : (new : Engine B P) (w : ℕ → World) → Moves terms told view mid new (at history mid.clock) (w mid.clock) → Moves terms told view engine new (at history engine.clock) (w engine.clock)
-      behind new w moves = moves_behind terms told view engine mid new (at history engine.clock) (w engine.clock) (ap (λ (j : JournalState). j.size) journal) moments_still
+      behind new w moves = moves_behind terms told view engine mid new (at history engine.clock) (w engine.clock) moments_still
           (subst (λ (n : ℕ). Moves terms told view mid new (at history n) (w n)) clock moves)
 
       -- its record is acknowledged

@@ -4,7 +4,7 @@ use Rattle.std.specs.Prelude.{IsTrue}
 use Rattle.std.proofs.lemmas.List.{length-replicate}
 use Rattle.bank.specs.Content.{Content}
 use Rattle.bank.specs.View.{View, OnlyRead}
-use Rattle.journal.specs.Records.{IsRecord, AreRecords, HoldsRecords, IsEnd, end_of}
+use Rattle.journal.specs.Records.{IsRecord, AreRecords, HoldsRecords, IsEnd, IsBadAt, end_of}
 use Rattle.journal.specs.Readers.{ReaderState, IsOver, IsFound, GoesOn}
 use Rattle.journal.specs.declared.reader.Found.{Found}
 use Rattle.journal.specs.declared.reader.Found.TheVariants.{Record, End, BadLength}
@@ -43,14 +43,14 @@ found_before u v old new found only finds over =
 
 -- A journal has no byte of a file: a put that was read stands for one of zeros.
 abbrev zeros_of : StepKind → List ℕ
-zeros_of (Put inode path owner group size runs) = replicate size 0
+zeros_of (Put put) = replicate put.length 0
 zeros_of _ = []
 
 abbrev with_zeros : Step → HistoryStep
 with_zeros step = record { step = step; bytes = zeros_of step.kind }
 
 zeros_fit : (moment : ℕ) (kind : StepKind) → HasBytes (with_zeros (record { moment = moment; kind = kind }))
-zeros_fit moment (Put inode path owner group size runs) = length-replicate size 0
+zeros_fit moment (Put put) = length-replicate put.length 0
 zeros_fit moment _ = refl
 
 -- before the first record
@@ -78,16 +78,26 @@ module _ (terms : Terms) (told : Bool) (c : Content) (old new : ReaderState) (si
       }
 
   -- or of none: the journal is bad there
-  pub bad_step : IsTrue told → IsRecord c old.place new.payload old.size → IsOfNoStep terms (after terms so_far.steps).fields new.payload → IsBadJournal terms old.size c old.place
-  bad_step t here refused = record {
+  pub bad_step : old.size ≡ terms.size → IsTrue told → IsRecord c old.place new.payload old.size → IsOfNoStep terms (after terms so_far.steps).fields new.payload → IsBadJournal terms c old.place
+  bad_step size t here refused = record {
     steps = so_far.steps;
     history = so_far.history;
-    bad = inr (record { before = so_far.records t; behind = so_far.place; payload = new.payload; here = here; refused = refused });
+    bad = inr (record {
+      before = subst (λ (n : ℕ). AreRecords c 0 (written_forms so_far.steps) n) size (so_far.records t);
+      behind = so_far.place;
+      payload = new.payload;
+      here = subst (λ (n : ℕ). IsRecord c old.place new.payload n) size here;
+      refused = refused;
+    });
   }
 
   -- and so it is where a length is one that no record has
-  pub bad_length : IsTrue told → IsFound c old new BadLength → IsBadJournal terms old.size c old.place
-  bad_length t found = record { steps = so_far.steps; history = so_far.history; bad = inl (found (written_forms so_far.steps) (so_far.records t) so_far.place) }
+  pub bad_length : old.size ≡ terms.size → IsTrue told → IsFound c old new BadLength → IsBadJournal terms c old.place
+  bad_length size t found = record {
+    steps = so_far.steps;
+    history = so_far.history;
+    bad = inl (subst (λ (n : ℕ). IsBadAt c old.place n (written_forms so_far.steps)) size (found (written_forms so_far.steps) (so_far.records t) so_far.place));
+  }
 
 -- the journal ends behind the history
 pub read_to_end : (terms : Terms) (told : Bool) (c : Content) (old new : ReaderState) (site : SiteState) (h : IsReadUpTo terms told c old site) → GoesOn old new End → new.size ≡ old.size → (IsTrue told → IsFound c old new End)

@@ -15,9 +15,9 @@ course_goes NoMemory area h = absurd h
 course_goes _ area h = refl
 
 -- calls no journal bad
-pub no_bad_journal : (terms : Terms) (size : ℕ) (c : Content) (reply : Reply) → TellsNoFault reply → RepliesJournal terms size c reply
-no_bad_journal terms size c (BadJournal place) h = absurd h
-no_bad_journal terms size c _ h = tt
+pub no_bad_journal : (terms : Terms) (c : Content) (reply : Reply) → TellsNoFault reply → RepliesJournal terms c reply
+no_bad_journal terms c (BadJournal place) h = absurd h
+no_bad_journal terms c _ h = tt
 
 -- and is not that of a fault
 pub no_fault : (reply : Reply) → TellsNoFault reply → reply ≡ BankFault → ⊥

@@ -38,9 +38,10 @@ same_replayed terms journal site xs ys h history forms =
 
 -- an engine that keeps what was replayed, with no reopening due
 pub stands_at : (terms : Terms) → {B P : Type 0} (told : Bool) (view : B → View) (new : Engine B P) (steps : List HistoryStep) (clock : ℕ) → IsReplayed terms new.journal new.site steps
-    → new.steps ≡ new.journal.count → new.clock ≡ clock → (after terms steps).fields.moment ≤ clock → clock < 2 ^ 40 → new.due ≡ false
-    → (IsTrue told → (c : Image) → IsImage (view new.bank) c → Reads terms new.journal.size c steps) → StandsFor terms told view new (at steps clock)
-stands_at terms told view new steps clock h count same in_time range due images = record {
+    → new.steps ≡ new.journal.count → new.clock ≡ clock → (after terms steps).fields.moment ≤ clock → clock < 2 ^ 40 → new.due ≡ false → new.journal.size ≡ terms.size
+    → (IsTrue told → (c : Image) → IsImage (view new.bank) c → Reads terms c steps) → StandsFor terms told view new (at steps clock)
+stands_at terms told view new steps clock h count same in_time range due size images = record {
+  size = size;
   history = h.history;
   steps = count ∙ h.count;
   clock = same;
@@ -53,8 +54,8 @@ stands_at terms told view new steps clock h count same in_time range due images 
 }
 
 -- what a journal's area holds is the same where nothing was written
-pub holds_before : (terms : Terms) (size : ℕ) (u v : View) (steps : List HistoryStep) → OnlyRead u v → IsHistory terms steps → HoldsRecords (v.content 0) 0 (written_forms steps) size → HoldsHistory terms size (u.content 0) steps
-holds_before terms size u v steps only history holds = holds_history_same terms size (v.content 0) (u.content 0) steps (λ k. sym (only.content 0 k)) (record { history = history; records = holds })
+pub holds_before : (terms : Terms) (u v : View) (steps : List HistoryStep) → OnlyRead u v → IsHistory terms steps → HoldsRecords (v.content 0) 0 (written_forms steps) terms.size → HoldsHistory terms (u.content 0) steps
+holds_before terms u v steps only history holds = holds_history_same terms (v.content 0) (u.content 0) steps (λ k. sym (only.content 0 k)) (record { history = history; records = holds })
 
 -- no reopening leads to a step later than the clock
 reopened_in_time : (terms : Terms) (w : World) (steps : List HistoryStep) → IsHistory terms steps → IsWithOrWithout w steps → (site_of terms w).fields.moment ≤ w.clock
@@ -66,18 +67,18 @@ reopened_in_time terms w steps history (inr h) in_time owed_in_time =
     omega (arith, last, owed_in_time h.0 h.1)
 
 -- a journal is not bad where each image reads as a world
-pub not_bad : (terms : Terms) (told : Bool) (size : ℕ) (u v : View) (w : World) (place : ℕ) → (IsTrue told → (c : Image) → IsImage u c → ReadsAs terms size w c) → (IsTrue told → IsSound v) → (IsTrue told → OnlyRead u v)
-    → (IsTrue told → IsBadJournal terms size (v.content 0) place) → told ≡ false
-not_bad terms false size u v w place images sound only bad = refl
-not_bad terms true size u v w place images sound only bad =
-    let now = images_after_reading terms size u v w (only refl) (images refl) v.content (sound refl).reads_as_image in
+pub not_bad : (terms : Terms) (told : Bool) (u v : View) (w : World) (place : ℕ) → (IsTrue told → (c : Image) → IsImage u c → ReadsAs terms w c) → (IsTrue told → IsSound v) → (IsTrue told → OnlyRead u v)
+    → (IsTrue told → IsBadJournal terms (v.content 0) place) → told ≡ false
+not_bad terms false u v w place images sound only bad = refl
+not_bad terms true u v w place images sound only bad =
+    let now = images_after_reading terms u v w (only refl) (images refl) v.content (sound refl).reads_as_image in
     absurd (⊎_elim
-    (λ (r : Reads terms size v.content w.history). not_bad_journal terms size (v.content 0) w.history place (record { history = r.history; records = r.records }) (bad refl))
-    (λ (more : (made : HistoryStep) × (w.owed ≡ Some made) × Reads terms size v.content (w.history ++ made ∷ [])).
-    not_bad_journal terms size (v.content 0) (w.history ++ more.0 ∷ []) place (record { history = more.2.history; records = more.2.records }) (bad refl))
+    (λ (r : Reads terms v.content w.history). not_bad_journal terms (v.content 0) w.history place (record { history = r.history; records = r.records }) (bad refl))
+    (λ (more : (made : HistoryStep) × (w.owed ≡ Some made) × Reads terms v.content (w.history ++ made ∷ [])).
+    not_bad_journal terms (v.content 0) (w.history ++ more.0 ∷ []) place (record { history = more.2.history; records = more.2.records }) (bad refl))
     now)
 
-module _ {B P : Type 0} (view : B → View) (old new : Engine B P) (w : World) where
+module _ (terms : Terms) {B P : Type 0} (view : B → View) (old new : Engine B P) (w : World) where
   -- nothing changed but the store, of which nothing was written
   pub stays : (told : Bool) → StandsFor terms told view old w → new.site ≡ old.site → new.journal ≡ old.journal → new.steps ≡ old.steps → new.clock ≡ old.clock → new.due ≡ old.due
       → (IsTrue told → OnlyRead (view old.bank) (view new.bank)) → StaysFor terms told view old new w
@@ -98,10 +99,10 @@ module _ {B P : Type 0} (view : B → View) (old new : Engine B P) (w : World) w
           place = ap (λ (j : JournalState). j.place) journal ∙ was.1.place;
         },
       );
-      images = λ is_told c image. subst (λ (n : ℕ). ReadsAs terms n w c) (ap (λ (j : JournalState). j.size) (sym journal))
-          (images_after_reading terms old.journal.size (view old.bank) (view new.bank) w (only is_told) (s.images is_told) c image);
+      size = ap (λ (j : JournalState). j.size) journal ∙ s.size;
+      images = λ is_told c image. images_after_reading terms (view old.bank) (view new.bank) w (only is_told) (s.images is_told) c image;
     };
-    moments = λ is_told. moments_of_reading terms old.journal.size (view old.bank) (view new.bank) w (only is_told) (s.images is_told);
+    moments = λ is_told. moments_of_reading terms (view old.bank) (view new.bank) w (only is_told) (s.images is_told);
   }
 
   -- the journal was read: the engine stands for the history that the reopening led to
@@ -113,60 +114,60 @@ module _ {B P : Type 0} (view : B → View) (old new : Engine B P) (w : World) w
         record {
           steps = read;
           reopened = h.history;
-          stands = stands_at terms false view new read (max w.clock (after terms read).fields.moment) h count same (omega arith) (omega (arith, s.range, new.site.range, h.keeps.moment)) due
+          stands = stands_at terms false view new read (max w.clock (after terms read).fields.moment) h count same (omega arith) (omega (arith, s.range, new.site.range, h.keeps.moment)) due (size ∙ s.size)
               (λ is_told. absurd (let differs : false ≡ true = is_told in cc));
           moments = λ is_told. absurd (let differs : false ≡ true = is_told in cc);
         }
 
     recovered_told : StandsFor terms true view old w → IsSound (view new.bank) → OnlyRead (view old.bank) (view new.bank) → OnlyContent 0 (view new.bank)
-        → HoldsRecords ((view new.bank).content 0) 0 (written_forms read) old.journal.size → IsRecovered terms true view old new w
+        → HoldsRecords ((view new.bank).content 0) 0 (written_forms read) terms.size → IsRecovered terms true view old new w
     recovered_told s sound only durable holds =
-        let images = images_after_reading terms old.journal.size (view old.bank) (view new.bank) w only (s.images refl) in
-        let led = decided terms old.journal.size (view new.bank) durable (written_forms read) holds w sound images in
+        let images = images_after_reading terms (view old.bank) (view new.bank) w only (s.images refl) in
+        let led = decided terms (view new.bank) durable (written_forms read) holds w sound images in
         let there = same_replayed terms new.journal new.site read led.0 h led.3 led.2 in
         let in_time = reopened_in_time terms w led.0 led.3 led.1 s.in_time s.owed_in_time in
         record {
           steps = led.0;
           reopened = (
             led.1,
-            holds_before terms old.journal.size (view old.bank) (view new.bank) led.0 only led.3
-                (subst (λ (forms : List (List ℕ)). HoldsRecords ((view new.bank).content 0) 0 forms old.journal.size) led.2 holds),
+            holds_before terms (view old.bank) (view new.bank) led.0 only led.3
+                (subst (λ (forms : List (List ℕ)). HoldsRecords ((view new.bank).content 0) 0 forms terms.size) led.2 holds),
           );
-          stands = stands_at terms true view new led.0 w.clock there count (omega (arith, clock, s.clock, there.keeps.moment, in_time)) in_time s.range due
-              (λ is_told c image. subst (λ (n : ℕ). Reads terms n c led.0) (sym size) (led.4 c image));
-          moments = λ is_told. moments_of_reading terms old.journal.size (view old.bank) (view new.bank) w only (s.images refl);
+          stands = stands_at terms true view new led.0 w.clock there count (omega (arith, clock, s.clock, there.keeps.moment, in_time)) in_time s.range due (size ∙ s.size)
+              (λ is_told c image. led.4 c image);
+          moments = λ is_told. moments_of_reading terms (view old.bank) (view new.bank) w only (s.images refl);
         }
 
     pub recovered : (told : Bool) → StandsFor terms told view old w → (IsTrue told → IsSound (view new.bank)) → (IsTrue told → OnlyRead (view old.bank) (view new.bank)) → (IsTrue told → OnlyContent 0 (view new.bank))
-        → (IsTrue told → HoldsRecords ((view new.bank).content 0) 0 (written_forms read) old.journal.size) → IsRecovered terms told view old new w
+        → (IsTrue told → HoldsRecords ((view new.bank).content 0) 0 (written_forms read) terms.size) → IsRecovered terms told view old new w
     recovered false s sound only durable holds = recovered_untold s
     recovered true s sound only durable holds = recovered_told s (sound refl) (only refl) (durable refl) (holds refl)
 
 -- an engine that is opened stands for the history of the journal as read, whatever the store tells
 pub stands_read : (terms : Terms) → {B P : Type 0} (view : B → View) (new : Engine B P) (read : List HistoryStep) → IsReplayed terms new.journal new.site read
-    → new.steps ≡ new.journal.count → new.clock ≡ new.site.moment → new.due ≡ false → StandsFor terms false view new (new_world terms read)
-stands_read terms view new read h count clock due =
-    stands_at terms false view new read (after terms read).fields.moment h count (clock ∙ h.keeps.moment) (omega arith) (omega (arith, new.site.range, h.keeps.moment)) due
+    → new.steps ≡ new.journal.count → new.clock ≡ new.site.moment → new.due ≡ false → new.journal.size ≡ terms.size → StandsFor terms false view new (new_world terms read)
+stands_read terms view new read h count clock due size =
+    stands_at terms false view new read (after terms read).fields.moment h count (clock ∙ h.keeps.moment) (omega arith) (omega (arith, new.site.range, h.keeps.moment)) due size
     (λ is_told. absurd (let differs : false ≡ true = is_told in cc))
 
 -- It stands for the history that its store is settled for, or for that of the journal as read.
-pub opened : (terms : Terms) → {B P : Type 0} (told : Bool) (view : B → View) (before : List HistoryStep) (size : ℕ) (u : View) (new : Engine B P) (read : List HistoryStep) → IsReplayed terms new.journal new.site read
-    → new.steps ≡ new.journal.count → new.clock ≡ new.site.moment → new.due ≡ false → new.journal.size ≡ size
-    → (IsTrue told → IsSettled terms size u before) → (IsTrue told → OnlyRead u (view new.bank)) → (IsTrue told → OnlyContent 0 (view new.bank))
-    → (IsTrue told → HoldsRecords ((view new.bank).content 0) 0 (written_forms read) size)
+pub opened : (terms : Terms) → {B P : Type 0} (told : Bool) (view : B → View) (before : List HistoryStep) (u : View) (new : Engine B P) (read : List HistoryStep) → IsReplayed terms new.journal new.site read
+    → new.steps ≡ new.journal.count → new.clock ≡ new.site.moment → new.due ≡ false → new.journal.size ≡ terms.size
+    → (IsTrue told → IsSettled terms u before) → (IsTrue told → OnlyRead u (view new.bank)) → (IsTrue told → OnlyContent 0 (view new.bank))
+    → (IsTrue told → HoldsRecords ((view new.bank).content 0) 0 (written_forms read) terms.size)
     → (found : List HistoryStep) × IsFound terms told before found × StandsFor terms told view new (new_world terms found)
-opened terms false view before size u new read h count clock due same settled only durable holds = (read, h.history, stands_read terms view new read h count clock due)
-opened terms true view before size u new read h count clock due same settled only durable holds =
-    let found = found_settled terms size u (view new.bank) before (settled refl) (only refl) (durable refl) (written_forms read) (holds refl) in
+opened terms false view before u new read h count clock due size settled only durable holds = (read, h.history, stands_read terms view new read h count clock due size)
+opened terms true view before u new read h count clock due size settled only durable holds =
+    let found = found_settled terms u (view new.bank) before (settled refl) (only refl) (durable refl) (written_forms read) (holds refl) in
     let there = same_replayed terms new.journal new.site read before h (settled refl).now.history found.0 in (
       before,
       refl,
-      stands_at terms true view new before (after terms before).fields.moment there count (clock ∙ there.keeps.moment) (omega arith) (omega (arith, new.site.range, there.keeps.moment)) due
-          (λ is_told c image. subst (λ (n : ℕ). Reads terms n c before) (sym same) (found.1 c image)),
+      stands_at terms true view new before (after terms before).fields.moment there count (clock ∙ there.keeps.moment) (omega arith) (omega (arith, new.site.range, there.keeps.moment)) due size
+          (λ is_told c image. found.1 c image),
     )
 
 -- what a journal's area says is the same where nothing was written
-pub tells_before : (terms : Terms) (size : ℕ) (u v : View) (cause : ShutCause) → OnlyRead u v → TellsJournal terms size (v.content 0) cause → TellsJournal terms size (u.content 0) cause
-tells_before terms size u v BankFault only tells = tt
-tells_before terms size u v (BadJournal place) only tells = bad_journal_same terms size (v.content 0) (u.content 0) place (λ k. sym (only.content 0 k)) tells
-tells_before terms size u v NoMemory only tells = tt
+pub tells_before : (terms : Terms) (u v : View) (cause : ShutCause) → OnlyRead u v → TellsJournal terms (v.content 0) cause → TellsJournal terms (u.content 0) cause
+tells_before terms u v BankFault only tells = tt
+tells_before terms u v (BadJournal place) only tells = bad_journal_same terms (v.content 0) (u.content 0) place (λ k. sym (only.content 0 k)) tells
+tells_before terms u v NoMemory only tells = tt

@@ -18,7 +18,7 @@ use Rattle.engine.specs.StandsFor.{StandsFor, Moves}
 -- An engine whose files, journal, count and clock are as they were stands for the same world, if each image still reads as it.
 pub stands_still : (terms : Terms) → {B P : Type 0} (told : Bool) (view : B → View) (old new : Engine B P) (w : World) → StandsFor terms told view old w
     → ((fields : Fields) → Keeps old.site fields → Keeps new.site fields) → new.journal ≡ old.journal → new.steps ≡ old.steps → new.clock ≡ old.clock → new.due ≡ old.due
-    → (IsTrue told → (c : Image) → IsImage (view new.bank) c → ReadsAs terms old.journal.size w c) → StandsFor terms told view new w
+    → (IsTrue told → (c : Image) → IsImage (view new.bank) c → ReadsAs terms w c) → StandsFor terms told view new w
 stands_still terms told view old new w s keeps journal steps clock due images = record {
   history = s.history;
   steps = steps ∙ s.steps;
@@ -35,36 +35,37 @@ stands_still terms told view old new w s keeps journal steps clock due images = 
       place = ap (λ (j : JournalState). j.place) journal ∙ was.1.place;
     },
   );
-  images = λ t c image. subst (λ (n : ℕ). ReadsAs terms n w c) (ap (λ (j : JournalState). j.size) (sym journal)) (images t c image);
+  size = ap (λ (j : JournalState). j.size) journal ∙ s.size;
+  images = λ t c image. images t c image;
 }
 
-module _ {B P : Type 0} (told : Bool) (view : B → View) (old new : Engine B P) (w : World) (s : StandsFor terms told view old w)
+module _ (terms : Terms) {B P : Type 0} (told : Bool) (view : B → View) (old new : Engine B P) (w : World) (s : StandsFor terms told view old w)
     (keeps : (fields : Fields) → Keeps old.site fields → Keeps new.site fields) (journal : new.journal ≡ old.journal) (steps : new.steps ≡ old.steps) (clock : new.clock ≡ old.clock) (due : new.due ≡ old.due)
     (only : IsTrue told → OnlyRead (view old.bank) (view new.bank)) where
   -- nothing was written meanwhile
   pub stands_read : StandsFor terms told view new w
   stands_read = stands_still terms told view old new w s keeps journal steps clock due
-      (λ t c image. images_after_reading terms old.journal.size (view old.bank) (view new.bank) w (only t) (s.images t) c image)
+      (λ t c image. images_after_reading terms (view old.bank) (view new.bank) w (only t) (s.images t) c image)
 
   -- and so the world stays
   pub stays_here : Moves terms told view old new w w
   stays_here = record {
     stands = stands_read;
-    moments = λ t. weakened (view old.bank) (view new.bank) (ReadsAs terms old.journal.size w)
-        (λ c. ReadsAs terms old.journal.size w c ⊎ ReadsAs terms old.journal.size w c) (moments_of_reading terms old.journal.size (view old.bank) (view new.bank) w (only t) (s.images t)) (λ c reads. inl reads);
+    moments = λ t. weakened (view old.bank) (view new.bank) (ReadsAs terms w)
+        (λ c. ReadsAs terms w c ⊎ ReadsAs terms w c) (moments_of_reading terms (view old.bank) (view new.bank) w (only t) (s.images t)) (λ c reads. inl reads);
   }
 
 -- While nothing is written each image reads as the world.
 pub moments_since : (terms : Terms) → {B P : Type 0} (told : Bool) (view : B → View) (old : Engine B P) (w : World) → StandsFor terms told view old w → (bank : B)
-    → (IsTrue told → OnlyRead (view old.bank) (view bank)) → IsTrue told → LeavesOnly (view old.bank) (view bank) (ReadsAs terms old.journal.size w)
-moments_since terms told view old w s bank only t = moments_of_reading terms old.journal.size (view old.bank) (view bank) w (only t) (s.images t)
+    → (IsTrue told → OnlyRead (view old.bank) (view bank)) → IsTrue told → LeavesOnly (view old.bank) (view bank) (ReadsAs terms w)
+moments_since terms told view old w s bank only t = moments_of_reading terms (view old.bank) (view bank) w (only t) (s.images t)
 
 -- What comes before a move leaves each image as it was.
-pub moves_behind : (terms : Terms) → {B P : Type 0} (told : Bool) (view : B → View) (old mid new : Engine B P) (w w' : World) → mid.journal.size ≡ old.journal.size
-    → (IsTrue told → LeavesOnly (view old.bank) (view mid.bank) (ReadsAs terms old.journal.size w)) → Moves terms told view mid new w w' → Moves terms told view old new w w'
-moves_behind terms told view old mid new w w' size before moves = record {
+pub moves_behind : (terms : Terms) → {B P : Type 0} (told : Bool) (view : B → View) (old mid new : Engine B P) (w w' : World)
+    → (IsTrue told → LeavesOnly (view old.bank) (view mid.bank) (ReadsAs terms w)) → Moves terms told view mid new w w' → Moves terms told view old new w w'
+moves_behind terms told view old mid new w w' before moves = record {
   stands = moves.stands;
-  moments = λ t. joined (view old.bank) (view mid.bank) (view new.bank) (λ c. ReadsAs terms old.journal.size w c ⊎ ReadsAs terms old.journal.size w' c)
-      (weakened (view old.bank) (view mid.bank) (ReadsAs terms old.journal.size w) (λ c. ReadsAs terms old.journal.size w c ⊎ ReadsAs terms old.journal.size w' c) (before t) (λ c reads. inl reads))
-      (subst (λ (n : ℕ). LeavesOnly (view mid.bank) (view new.bank) (λ c. ReadsAs terms n w c ⊎ ReadsAs terms n w' c)) size (moves.moments t));
+  moments = λ t. joined (view old.bank) (view mid.bank) (view new.bank) (λ c. ReadsAs terms w c ⊎ ReadsAs terms w' c)
+      (weakened (view old.bank) (view mid.bank) (ReadsAs terms w) (λ c. ReadsAs terms w c ⊎ ReadsAs terms w' c) (before t) (λ c reads. inl reads))
+      (moves.moments t);
 }

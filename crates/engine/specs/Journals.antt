@@ -9,11 +9,11 @@ use Rattle.engine.specs.declared.engine.ShutCause.{ShutCause}
 use Rattle.engine.specs.declared.engine.ShutCause.TheVariants.{BankFault, BadJournal, NoMemory}
 
 -- a bad journal is told where one stands
-abbrev pub TellsJournal : Terms → ℕ → Content → ShutCause → Type 0
-TellsJournal terms size c BankFault = Unit {0}
-TellsJournal terms size c NoMemory = Unit {0}
-TellsJournal terms size c (BadJournal place) = IsBadJournal terms size c place
+abbrev pub TellsJournal : Terms → Content → ShutCause → Type 0
+TellsJournal terms c BankFault = Unit {0}
+TellsJournal terms c NoMemory = Unit {0}
+TellsJournal terms c (BadJournal place) = IsBadJournal terms c place
 
-abbrev pub RepliesJournal : Terms → ℕ → Content → Reply → Type 0
-RepliesJournal terms size c (BadJournalReply place) = IsBadJournal terms size c place
-RepliesJournal terms size c _ = Unit {0}
+abbrev pub RepliesJournal : Terms → Content → Reply → Type 0
+RepliesJournal terms c (BadJournalReply place) = IsBadJournal terms c place
+RepliesJournal terms c _ = Unit {0}

@@ -18,7 +18,7 @@ pub record IsReady (terms : Terms) {B P : Type 0} (told : Bool) (view : B → Vi
   pub bytes : HasBytes made
   pub form : engine.payload.items ≡ written made.step
   pub moment : made.step.moment ≡ engine.clock
-  pub stored : IsTrue told → StandInAll (view engine.bank) (put_extents made)
+  pub stored : IsTrue told → StandInAll (view engine.bank) (step_extents made (after terms history))
 
 -- a world that owes a step
 abbrev pub owing : List HistoryStep → ℕ → HistoryStep → World

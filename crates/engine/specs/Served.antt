@@ -11,10 +11,10 @@ use Rattle.site_history.specs.Terms.{Terms}
 
 -- A fault that is told was counted, and a reopening is due only after one; no journal is called bad. The journal's size and the
 -- patterns stay, and the store's moment is not earlier.
-pub record IsServed (terms : Terms) {B P : Type 0} (tells : Bool) (view : B → View) (faults journal_faults last_fault : B → ℕ) (old new : Engine B P) (reply : Reply) : Type 0 where
+pub record IsServed {B P : Type 0} (tells : Bool) (view : B → View) (faults journal_faults last_fault : B → ℕ) (old new : Engine B P) (reply : Reply) : Type 0 where
   pub causes : IsRepliedFor faults journal_faults last_fault old.bank new.bank reply
   pub ready : reply ≢ BankFault → new.due ≡ false
-  pub journal : (size : ℕ) (c : Content) → RepliesJournal terms size c reply
+  pub journal : (terms : Terms) (c : Content) → RepliesJournal terms c reply
   pub size : new.journal.size ≡ old.journal.size
   pub patterns : new.patterns ≡ old.patterns
   pub moment : IsTrue tells → (view old.bank).moment ≤ (view new.bank).moment

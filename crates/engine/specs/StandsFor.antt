@@ -27,21 +27,22 @@ pub record StandsFor (terms : Terms) {B P : Type 0} (told : Bool) (view : B → 
   pub range : w.clock < 2 ^ 40
   pub due : engine.due ≡ w.due
   pub in_step : engine.due ≡ false → (w.owed ≡ None) × IsInStep terms engine w.history
-  pub images : IsTrue told → (c : Image) → IsImage (view engine.bank) c → ReadsAs terms engine.journal.size w c
+  pub size : engine.journal.size ≡ terms.size
+  pub images : IsTrue told → (c : Image) → IsImage (view engine.bank) c → ReadsAs terms w c
 
 -- It stands for another world then, and each image meanwhile reads as the one or the other.
 pub record Moves (terms : Terms) {B P : Type 0} (told : Bool) (view : B → View) (old new : Engine B P) (w w' : World) : Type 0 where
   pub stands : StandsFor terms told view new w'
-  pub moments : IsTrue told → LeavesOnly (view old.bank) (view new.bank) (λ c. ReadsAs terms old.journal.size w c ⊎ ReadsAs terms old.journal.size w' c)
+  pub moments : IsTrue told → LeavesOnly (view old.bank) (view new.bank) (λ c. ReadsAs terms w c ⊎ ReadsAs terms w' c)
 
 -- A reopening came to the history that the journal held, and the engine stands for it. Each image meanwhile reads as the world.
 pub record IsRecovered (terms : Terms) {B P : Type 0} (told : Bool) (view : B → View) (old new : Engine B P) (w : World) : Type 0 where
   pub steps : List HistoryStep
-  pub reopened : IsReopened terms told old.journal.size ((view old.bank).content 0) w steps
+  pub reopened : IsReopened terms told ((view old.bank).content 0) w steps
   pub stands : StandsFor terms told view new (at steps (clock_from terms told w steps))
-  pub moments : IsTrue told → LeavesOnly (view old.bank) (view new.bank) (ReadsAs terms old.journal.size w)
+  pub moments : IsTrue told → LeavesOnly (view old.bank) (view new.bank) (ReadsAs terms w)
 
 -- It stands for the world still, and each image meanwhile reads as it.
 pub record StaysFor (terms : Terms) {B P : Type 0} (told : Bool) (view : B → View) (old new : Engine B P) (w : World) : Type 0 where
   pub stands : StandsFor terms told view new w
-  pub moments : IsTrue told → LeavesOnly (view old.bank) (view new.bank) (ReadsAs terms old.journal.size w)
+  pub moments : IsTrue told → LeavesOnly (view old.bank) (view new.bank) (ReadsAs terms w)

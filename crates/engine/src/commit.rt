@@ -26,10 +26,10 @@ impl<B: Bank, P: Drop> Engine<B, P> {
         requires range { InRange prepared.step }
         requires prepared { IsPrepared self.old.site prepared }
         // At `Ok` the step is acknowledged: the engine stands for the history with it.
-        ensures made { (told : Bool) → (IsTrue told → IsTrue B.tells) → (history : Seq HistoryStep) → (made : HistoryStep) → made.step ≡ prepared.step → IsReady terms told B.view self.old history made
+        ensures made { (terms : Terms) (told : Bool) → (IsTrue told → IsTrue B.tells) → (history : Seq HistoryStep) → (made : HistoryStep) → made.step ≡ prepared.step → IsReady terms told B.view self.old history made
             → OnOk result (Moves terms told B.view self.old self.new (at history self.old.clock) (at (history ++ made ∷ []) self.old.clock)) }
         // At an error the step is owed.
-        ensures owed { (told : Bool) → (IsTrue told → IsTrue B.tells) → (history : Seq HistoryStep) → (made : HistoryStep) → made.step ≡ prepared.step → IsReady terms told B.view self.old history made
+        ensures owed { (terms : Terms) (told : Bool) → (IsTrue told → IsTrue B.tells) → (history : Seq HistoryStep) → (made : HistoryStep) → made.step ≡ prepared.step → IsReady terms told B.view self.old history made
             → OnErr result (Moves terms told B.view self.old self.new (at history self.old.clock) (owing history self.old.clock made)) }
         ensures fault { OnErr result (Rose (B.faults self.old.bank) (B.faults self.new.bank)) }
         ensures journal_fault { OnErr result (Rose (B.journal_faults self.old.bank) (B.journal_faults self.new.bank)) }

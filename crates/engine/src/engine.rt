@@ -62,16 +62,16 @@ impl<B: Bank, P: Drop> Engine<B, P> {
     ) -> Result<Engine<B, P>, Shut<B, P>>
         requires { journal_bytes ≤ 268435456 }
         // It stands for the history for which the store is settled; for that of the journal where the store tells nothing.
-        ensures stands { (told : Bool) → (IsTrue told → IsTrue B.tells) → (before : List HistoryStep) → (IsTrue told → IsSettled terms journal_bytes (B.view bank) before)
+        ensures stands { (terms : Terms) → journal_bytes ≡ terms.size → (told : Bool) → (IsTrue told → IsTrue B.tells) → (before : List HistoryStep) → (IsTrue told → IsSettled terms (B.view bank) before)
             → IfOk result (λ engine. (found : List HistoryStep) × IsFound terms told before found × StandsFor terms told B.view engine (new_world terms found)) }
         // Whatever the store is settled for, it stands for the history that the journal holds.
-        ensures held { IfOk result (λ engine. (found : List HistoryStep) × StandsFor terms false B.view engine (new_world terms found) × (IsTrue B.tells → HoldsHistory terms journal_bytes ((B.view bank).content 0) found)) }
+        ensures held { (terms : Terms) → journal_bytes ≡ terms.size → IfOk result (λ engine. (found : List HistoryStep) × StandsFor terms false B.view engine (new_world terms found) × (IsTrue B.tells → HoldsHistory terms ((B.view bank).content 0) found)) }
         ensures ready { IfOk result (λ engine. engine.due ≡ false) }
         ensures size { IfOk result (λ engine. engine.journal.size ≡ journal_bytes) }
         ensures unchanged { IsTrue B.tells → MatchResult result (λ engine. OnlyRead (B.view bank) (B.view engine.bank)) (λ shut. OnlyRead (B.view bank) (B.view shut.bank)) }
         // The journal holds a history, or it is bad at a place.
-        ensures journal { IsTrue B.tells → IfOk result (λ engine. (found : List HistoryStep) × HoldsHistory terms journal_bytes ((B.view bank).content 0) found) }
-        ensures bad_journal { IsTrue B.tells → IfErr result (λ shut. TellsJournal terms journal_bytes ((B.view bank).content 0) shut.refusal) }
+        ensures journal { IsTrue B.tells → (terms : Terms) → journal_bytes ≡ terms.size → IfOk result (λ engine. (found : List HistoryStep) × HoldsHistory terms ((B.view bank).content 0) found) }
+        ensures bad_journal { IsTrue B.tells → (terms : Terms) → journal_bytes ≡ terms.size → IfErr result (λ shut. TellsJournal terms ((B.view bank).content 0) shut.refusal) }
         ensures fault { IfErr result (λ shut. shut.refusal ≡ ShutCause.BankFault → Rose (B.faults bank) (B.faults shut.bank)) }
         ensures later { MatchResult result (λ engine. B.faults bank ≤ B.faults engine.bank) (λ shut. B.faults bank ≤ B.faults shut.bank) }
         ensures journal_later { MatchResult result (λ engine. B.journal_faults bank ≤ B.journal_faults engine.bank) (λ shut. B.journal_faults bank ≤ B.journal_faults shut.bank) }
@@ -106,14 +106,14 @@ impl<B: Bank, P: Drop> Engine<B, P> {
 
     // Reads the site again, which is due, and keeps it. On an error nothing is changed but the store.
     fn recover(&mut self) -> Result<(), Reply>
-        ensures recovered { (told : Bool) → (IsTrue told → IsTrue B.tells) → (w : World) → StandsFor terms told B.view self.old w → self.old.due ≡ true
+        ensures recovered { (terms : Terms) (told : Bool) → (IsTrue told → IsTrue B.tells) → (w : World) → StandsFor terms told B.view self.old w → self.old.due ≡ true
             → MatchResult result (λ _. IsRecovered terms told B.view self.old self.new w) (λ reply. RefusesReopening told reply × StaysFor terms told B.view self.old self.new w) }
         ensures ok { OnOk result (self.new.due ≡ false) }
         ensures err { OnErr result (self.new ≡ record self.old { bank = self.new.bank }) }
         ensures size { self.new.journal.size ≡ self.old.journal.size }
         ensures patterns { self.new.patterns ≡ self.old.patterns }
         ensures unchanged { IsTrue B.tells → OnlyRead (B.view self.old.bank) (B.view self.new.bank) }
-        ensures bad_journal { IsTrue B.tells → IfErr result (RepliesJournal terms self.old.journal.size ((B.view self.new.bank).content 0)) }
+        ensures bad_journal { IsTrue B.tells → (terms : Terms) → self.old.journal.size ≡ terms.size → IfErr result (RepliesJournal terms ((B.view self.new.bank).content 0)) }
         ensures later { B.faults self.old.bank ≤ B.faults self.new.bank }
         ensures journal_later { B.journal_faults self.old.bank ≤ B.journal_faults self.new.bank }
         ensures causes { IfErr result (IsRepliedFor B.faults B.journal_faults B.last_fault self.old.bank self.new.bank) }
@@ -136,15 +136,15 @@ impl<B: Bank, P: Drop> Engine<B, P> {
     /// One event. Its moment is the greater of the clock and the lesser of `now` and 2^40 - 1. Where a reopening is due it
     /// comes first, and leads to the history that the journal holds when it is called.
     pub fn event(&mut self, event: Event, now: u64) -> Reply
-        ensures turn { (told : Bool) → (IsTrue told → IsTrue B.tells) → (w : World) → StandsFor terms told B.view self.old w
-            → (w' : World) × EventTurn terms self.old.journal.size told w event now (B.last_fault self.new.bank) ((B.view self.old.bank).content 0) result w' × Moves terms told B.view self.old self.new w w' }
-        ensures wrong_file { (told : Bool) → (IsTrue told → IsTrue B.tells) → (w : World) → StandsFor terms told B.view self.old w → (texts : Texts) → event ≡ ConfigureEvent texts
-            → TellsConfiguration terms self.old.journal.size told w ((B.view self.old.bank).content 0) texts result }
+        ensures turn { (terms : Terms) (told : Bool) → (IsTrue told → IsTrue B.tells) → (w : World) → StandsFor terms told B.view self.old w
+            → (w' : World) × EventTurn terms told w event now (B.last_fault self.new.bank) ((B.view self.old.bank).content 0) result w' × Moves terms told B.view self.old self.new w w' }
+        ensures wrong_file { (terms : Terms) (told : Bool) → (IsTrue told → IsTrue B.tells) → (w : World) → StandsFor terms told B.view self.old w → (texts : Texts) → event ≡ ConfigureEvent texts
+            → TellsConfiguration terms told w ((B.view self.old.bank).content 0) texts result }
         ensures fault { result ≡ Reply.BankFault → Rose (B.faults self.old.bank) (B.faults self.new.bank) }
         ensures journal_fault { result ≡ Reply.BankFault → B.last_fault self.new.bank ≡ 0 → Rose (B.journal_faults self.old.bank) (B.journal_faults self.new.bank) }
         ensures later { B.faults self.old.bank ≤ B.faults self.new.bank }
         ensures journal_later { B.journal_faults self.old.bank ≤ B.journal_faults self.new.bank }
-        ensures bad_journal { IsTrue B.tells → RepliesJournal terms self.old.journal.size ((B.view self.new.bank).content 0) result }
+        ensures bad_journal { IsTrue B.tells → (terms : Terms) → self.old.journal.size ≡ terms.size → RepliesJournal terms ((B.view self.new.bank).content 0) result }
         ensures ready { self.old.due ≡ false → result ≢ Reply.BankFault → self.new.due ≡ false }
         ensures size { self.new.journal.size ≡ self.old.journal.size }
         ensures patterns { self.new.patterns ≡ self.old.patterns }
@@ -163,9 +163,9 @@ impl<B: Bank, P: Drop> Engine<B, P> {
     // One event, where no reopening is due.
     fn serve(&mut self, event: Event, now: u64) -> Reply
         requires { self.old.due ≡ false }
-        ensures turn { (told : Bool) → (IsTrue told → IsTrue B.tells) → (history : List HistoryStep) (clock : ℕ) → StandsFor terms told B.view self.old (at history clock)
-            → (w : World) × Turn terms self.old.journal.size told history event (moment_of clock now) (B.last_fault self.new.bank) result w × Moves terms told B.view self.old self.new (at history clock) w }
-        ensures served { IsServed terms B.tells B.view B.faults B.journal_faults B.last_fault self.old self.new result }
+        ensures turn { (terms : Terms) (told : Bool) → (IsTrue told → IsTrue B.tells) → (history : List HistoryStep) (clock : ℕ) → StandsFor terms told B.view self.old (at history clock)
+            → (w : World) × Turn terms told history event (moment_of clock now) (B.last_fault self.new.bank) result w × Moves terms told B.view self.old self.new (at history clock) w }
+        ensures served { IsServed B.tells B.view B.faults B.journal_faults B.last_fault self.old self.new result }
     {
         self.clock = self.clock.max(now.min(LAST_MOMENT));
         match decide(&mut self.site, self.alloc, event, self.clock) {
@@ -176,14 +176,14 @@ impl<B: Bank, P: Drop> Engine<B, P> {
 
     /// How many steps were acknowledged.
     pub fn steps(&self) -> u64
-        ensures { (told : Bool) (w : World) → StandsFor terms told B.view self.now w → result ≡ length w.history }
+        ensures { (terms : Terms) (told : Bool) (w : World) → StandsFor terms told B.view self.now w → result ≡ length w.history }
     {
         self.steps
     }
 
     /// What the command files of the site say. Where a reopening is due they may be others than those of the history.
     pub fn configuration(&self) -> &Configuration
-        ensures said { (told : Bool) (w : World) → StandsFor terms told B.view self.now w → self.now.due ≡ false → Says (after terms w.history).fields.texts result.now }
+        ensures said { (terms : Terms) (told : Bool) (w : World) → StandsFor terms told B.view self.now w → self.now.due ≡ false → Says (after terms w.history).fields.texts result.now }
         ensures kept { result.now ≡ self.now.site.configuration }
     {
         self.site.configuration()

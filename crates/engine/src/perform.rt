@@ -26,10 +26,10 @@ impl<B: Bank, P: Drop> Engine<B, P> {
         requires ready { self.old.due ≡ false }
         requires performable { IsPerformable self.old.site plan }
         // It is the turn of each event of whose answer the plan is.
-        ensures turn { (told : Bool) → (IsTrue told → IsTrue B.tells) → (history : Seq HistoryStep) → StandsFor terms told B.view self.old (at history self.old.clock)
+        ensures turn { (terms : Terms) (told : Bool) → (IsTrue told → IsTrue B.tells) → (history : Seq HistoryStep) → StandsFor terms told B.view self.old (at history self.old.clock)
             → (event : Happens) → IsPlanOf (after terms history) (answer_to terms (after terms history) self.old.clock event) plan
-            → (w : World) × Turn terms self.old.journal.size told history event self.old.clock (B.last_fault self.new.bank) result w × Moves terms told B.view self.old self.new (at history self.old.clock) w }
-        ensures served { IsServed terms B.tells B.view B.faults B.journal_faults B.last_fault self.old self.new result }
+            → (w : World) × Turn terms told history event self.old.clock (B.last_fault self.new.bank) result w × Moves terms told B.view self.old self.new (at history self.old.clock) w }
+        ensures served { IsServed B.tells B.view B.faults B.journal_faults B.last_fault self.old self.new result }
     {
         match plan {
             Plan::Answer(reply) => reply,
@@ -42,10 +42,10 @@ impl<B: Bank, P: Drop> Engine<B, P> {
         requires ready { self.old.due ≡ false }
         requires recordable { IsRecordable self.old.site prepared }
         requires named { NamesNoFault work }
-        ensures turn { (told : Bool) → (IsTrue told → IsTrue B.tells) → (history : Seq HistoryStep) → StandsFor terms told B.view self.old (at history self.old.clock)
+        ensures turn { (terms : Terms) (told : Bool) → (IsTrue told → IsTrue B.tells) → (history : Seq HistoryStep) → StandsFor terms told B.view self.old (at history self.old.clock)
             → (event : Happens) → IsPlanOf (after terms history) (answer_to terms (after terms history) self.old.clock event) (Plan.Make prepared work)
-            → (w : World) × Turn terms self.old.journal.size told history event self.old.clock (B.last_fault self.new.bank) result w × Moves terms told B.view self.old self.new (at history self.old.clock) w }
-        ensures served { IsServed terms B.tells B.view B.faults B.journal_faults B.last_fault self.old self.new result }
+            → (w : World) × Turn terms told history event self.old.clock (B.last_fault self.new.bank) result w × Moves terms told B.view self.old self.new (at history self.old.clock) w }
+        ensures served { IsServed B.tells B.view B.faults B.journal_faults B.last_fault self.old self.new result }
     {
         let Ok(()) = write_payload(&prepared.step, &mut self.payload) else {
             return Reply::NoMemory;

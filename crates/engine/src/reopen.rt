@@ -25,11 +25,11 @@ fn replay_rest<B: Bank>(
     site: &mut SiteState,
 ) -> Result<(), ShutCause>
     requires over { IsTrue B.tells → IsOver ((B.view bank.old).content 0) reader.old }
-    requires so_far { IsReadUpTo terms B.tells ((B.view bank.old).content 0) reader.old site.old }
-    ensures read { OnOk result (IsReadToEnd terms B.tells ((B.view bank.old).content 0) reader.new site.new) }
+    requires so_far { (terms : Terms) → IsReadUpTo terms B.tells ((B.view bank.old).content 0) reader.old site.old }
+    ensures read { (terms : Terms) → OnOk result (IsReadToEnd terms B.tells ((B.view bank.old).content 0) reader.new site.new) }
     ensures size { reader.new.size ≡ reader.old.size }
     ensures unchanged { IsTrue B.tells → OnlyRead (B.view bank.old) (B.view bank.new) }
-    ensures bad { IsTrue B.tells → IfErr result (TellsJournal terms reader.old.size ((B.view bank.old).content 0)) }
+    ensures bad { IsTrue B.tells → (terms : Terms) → reader.old.size ≡ terms.size → IfErr result (TellsJournal terms ((B.view bank.old).content 0)) }
     ensures causes { IsShutFor B.faults B.journal_faults bank.old bank.new result }
 {
     'records: loop {
@@ -57,11 +57,11 @@ pub fn read_site<B: Bank>(
 ) -> Result<(Journal, SiteState), ShutCause>
     requires { size ≤ 268435456 }
     // The journal and the files are those of a history, whose records the journal's area holds.
-    ensures read { IfOk result (λ r. (steps : Seq HistoryStep) × IsReplayed terms r.0 r.1 steps × (IsTrue B.tells → HoldsRecords ((B.view bank.new).content 0) 0 (written_forms steps) size)) }
+    ensures read { (terms : Terms) → IfOk result (λ r. (steps : Seq HistoryStep) × IsReplayed terms r.0 r.1 steps × (IsTrue B.tells → HoldsRecords ((B.view bank.new).content 0) 0 (written_forms steps) size)) }
     ensures size { IfOk result (λ r. r.0.size ≡ size) }
     ensures unchanged { IsTrue B.tells → OnlyRead (B.view bank.old) (B.view bank.new) }
     ensures durable { IsTrue B.tells → OnOk result (OnlyContent 0 (B.view bank.new)) }
-    ensures bad { IsTrue B.tells → IfErr result (TellsJournal terms size ((B.view bank.new).content 0)) }
+    ensures bad { IsTrue B.tells → (terms : Terms) → size ≡ terms.size → IfErr result (TellsJournal terms ((B.view bank.new).content 0)) }
     ensures causes { IsShutFor B.faults B.journal_faults bank.old bank.new result }
 {
     let mut reader = match Reader::open(alloc, bank, size) {

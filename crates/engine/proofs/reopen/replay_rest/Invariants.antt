@@ -5,10 +5,10 @@ use Rattle.engine.specs.Replayed.{IsReadUpTo}
 use Rattle.engine.proofs.reopen.replay_rest.Given as goal
 use Rattle.site_history.specs.Terms.{Terms}
 
-abbrev pub invariant-records : (terms : Terms) → goal.invariant-records
-invariant-records terms g l = record {
+abbrev pub invariant-records : goal.invariant-records
+invariant-records g l = record {
   over : IsTrue g.B.Bank.tells → IsOver ((g.B.Bank.view l.fn.bank).content 0) l.reader;
-  so_far : IsReadUpTo terms g.B.Bank.tells ((g.B.Bank.view l.fn.bank).content 0) l.reader l.site;
+  so_far : (terms : Terms) → IsReadUpTo terms g.B.Bank.tells ((g.B.Bank.view l.fn.bank).content 0) l.reader l.site;
   size : l.reader.size ≡ l.fn.reader.size;
   unchanged : IsTrue g.B.Bank.tells → OnlyRead (g.B.Bank.view l.fn.bank) (g.B.Bank.view l.bank);
   later : g.B.Bank.faults l.fn.bank ≤ g.B.Bank.faults l.bank;

@@ -1,4 +1,4 @@
-use Rattle.std.proofs.Common.{◌++◌, ◌∷◌, [], refl, arith, rules}
+use Rattle.std.proofs.Common.{ℕ, ◌+◌, ◌<◌, ◌≤◌, ◌++◌, ◌∷◌, [], length, refl, arith, rules}
 use Rattle.bank.proofs.Readings.{nothing_read}
 use Rattle.site_history.specs.Histories.{after}
 use Rattle.site_history.specs.Worlds.{at}
@@ -9,57 +9,60 @@ use Rattle.engine.proofs.Turning.{stays_here}
 use Rattle.engine.proofs.kept.Engine.make.Goals as goal
 
 pub returns-in_default-clause-turn : goal.returns-in_default-clause-turn
-returns-in_default-clause-turn g c = λ told tells history stands event of. (
+returns-in_default-clause-turn g c = λ terms told tells history stands event of. (
   at history c.args.self.now.clock,
   refl,
   stays_here terms told g.B.Bank.view c.args.self.now _ (at history c.args.self.now.clock) stands (λ fields keeps. keeps) refl refl refl refl (λ t. nothing_read _ (g.met.B.Bank.sound _ (tells t))),
 )
 
 pub returns-then-not-has_room-clause-turn : goal.returns-then-not-has_room-clause-turn
-returns-then-not-has_room-clause-turn g c = λ told tells history stands event of. (
+returns-then-not-has_room-clause-turn g c = λ terms told tells history stands event of. (
   at history c.args.self.now.clock,
-  full-turn terms c.args.self.now.journal.size told history event c.args.self.now.clock 0 (reply_by terms told g.B.Bank.view c.args.self.now history stands event c.args.prepared c.args.work of)
+  full-turn terms told history event c.args.self.now.clock 0 (reply_by terms told g.B.Bank.view c.args.self.now history stands event c.args.prepared c.args.work of)
       (made_by terms told g.B.Bank.view c.args.self.now history stands event c.args.prepared c.args.work of)
       (plan_answered terms told g.B.Bank.view c.args.self.now history stands event c.args.prepared c.args.work of)
-      c.args.self.now.journal.place c.write_payload.new.payload.items (place_it terms told g.B.Bank.view c.args.self.now history stands) c.in-Ok.ensures.written (search rules),
+      c.args.self.now.journal.place c.write_payload.new.payload.items (place_it terms told g.B.Bank.view c.args.self.now history stands) c.in-Ok.ensures.written
+      (let full : c.args.self.now.journal.size < c.args.self.now.journal.place + 6 + length c.write_payload.new.payload.items = search rules in omega (arith, full, stands.size)),
   stays_here terms told g.B.Bank.view c.args.self.now _ (at history c.args.self.now.clock) stands (λ fields keeps. keeps) refl refl refl refl (λ t. nothing_read _ (g.met.B.Bank.sound _ (tells t))),
 )
 
 pub returns-in_default-do_work-clause-turn : goal.returns-in_default-do_work-clause-turn
-returns-in_default-do_work-clause-turn g c = λ told tells history stands event of. (
+returns-in_default-do_work-clause-turn g c = λ terms told tells history stands event of. (
   at history c.args.self.now.clock,
-  stays-turn terms c.args.self.now.journal.size told history event c.args.self.now.clock _ (λ journal. absurd (omega (arith, journal, c.in_default-do_work.ensures.counted.area))),
+  stays-turn terms told history event c.args.self.now.clock _ (λ journal. absurd (omega (arith, journal, c.in_default-do_work.ensures.counted.area))),
   work_stays terms told g.B.Bank.view c.args.self.now history stands (made_by terms told g.B.Bank.view c.args.self.now history stands event c.args.prepared c.args.work of)
       (plan_may terms told g.B.Bank.view c.args.self.now history stands event c.args.prepared c.args.work of) _ (λ fields keeps. keeps) refl refl refl refl
       (λ t. g.met.B.Bank.sound _ (tells t)) (λ t. c.do_work.ensures.wrote (tells t)),
 )
 
 pub returns-in-Ok-commit-clause-turn : goal.returns-in-Ok-commit-clause-turn
-returns-in-Ok-commit-clause-turn g c = λ told tells history stands event of.
+returns-in-Ok-commit-clause-turn g c = λ terms told tells history stands event of.
     let made = made_by terms told g.B.Bank.view c.args.self.now history stands event c.args.prepared c.args.work of in
     let reply = reply_by terms told g.B.Bank.view c.args.self.now history stands event c.args.prepared c.args.work of in (
       at (history ++ made ∷ []) c.args.self.now.clock,
-      made-turn terms c.args.self.now.journal.size told history event c.args.self.now.clock _ reply made
+      made-turn terms told history event c.args.self.now.clock _ reply made
           (plan_answered terms told g.B.Bank.view c.args.self.now history stands event c.args.prepared c.args.work of)
-          c.args.self.now.journal.place c.write_payload.new.payload.items (place_it terms told g.B.Bank.view c.args.self.now history stands) c.in-Ok.ensures.written (search rules)
+          c.args.self.now.journal.place c.write_payload.new.payload.items (place_it terms told g.B.Bank.view c.args.self.now history stands) c.in-Ok.ensures.written
+          (let fits : c.args.self.now.journal.place + 6 + length c.write_payload.new.payload.items ≤ c.args.self.now.journal.size = search rules in omega (arith, fits, stands.size))
           c.in-Ok-do_work.reply (course_goes c.in-Ok-do_work.reply _ c.in-Ok-do_work.ensures.named)
           (c.in-Ok-do_work.ensures.gives told tells (after terms history) reply of.1 (λ t. bytes_stand terms told g.B.Bank.view c.args.self.now history stands t (g.met.B.Bank.sound _ (tells t)))),
       work_makes terms told g.B.Bank.view c.args.self.now history stands made (plan_may terms told g.B.Bank.view c.args.self.now history stands event c.args.prepared c.args.work of) _ (λ fields keeps. keeps) refl refl refl refl
           (λ t. g.met.B.Bank.sound _ (tells t)) (λ t. c.do_work.ensures.wrote (tells t)) c.in-Ok.ensures.written (λ t. c.in-Ok-do_work.ensures.stored (tells t)) _
-          (c.in-Ok-commit.ensures.made told tells history made refl),
+          (c.in-Ok-commit.ensures.made terms told tells history made refl),
     )
 
 pub returns-in-Err-clause-turn : goal.returns-in-Err-clause-turn
-returns-in-Err-clause-turn g c = λ told tells history stands event of.
+returns-in-Err-clause-turn g c = λ terms told tells history stands event of.
     let made = made_by terms told g.B.Bank.view c.args.self.now history stands event c.args.prepared c.args.work of in
     let reply = reply_by terms told g.B.Bank.view c.args.self.now history stands event c.args.prepared c.args.work of in (
       owing history c.args.self.now.clock made,
-      owes-turn terms c.args.self.now.journal.size told history event c.args.self.now.clock _ reply made
+      owes-turn terms told history event c.args.self.now.clock _ reply made
           (plan_answered terms told g.B.Bank.view c.args.self.now history stands event c.args.prepared c.args.work of)
-          c.args.self.now.journal.place c.write_payload.new.payload.items (place_it terms told g.B.Bank.view c.args.self.now history stands) c.in-Ok.ensures.written (search rules) c.in-Err.ensures.area,
+          c.args.self.now.journal.place c.write_payload.new.payload.items (place_it terms told g.B.Bank.view c.args.self.now history stands) c.in-Ok.ensures.written
+          (let fits : c.args.self.now.journal.place + 6 + length c.write_payload.new.payload.items ≤ c.args.self.now.journal.size = search rules in omega (arith, fits, stands.size)) c.in-Err.ensures.area,
       work_owes terms told g.B.Bank.view c.args.self.now history stands made (plan_may terms told g.B.Bank.view c.args.self.now history stands event c.args.prepared c.args.work of) _ (λ fields keeps. keeps) refl refl refl refl
           (λ t. g.met.B.Bank.sound _ (tells t)) (λ t. c.do_work.ensures.wrote (tells t)) c.in-Ok.ensures.written (λ t. c.in-Ok-do_work.ensures.stored (tells t)) _
-          (c.in-Err.ensures.owed told tells history made refl),
+          (c.in-Err.ensures.owed terms told tells history made refl),
     )
 
 pub returns-in-Ok-commit-clause-served : goal.returns-in-Ok-commit-clause-served
@@ -72,7 +75,7 @@ returns-in-Ok-commit-clause-served g c =
         journal_fault = λ e zero. absurd (no_fault c.in-Ok-do_work.reply named e);
       };
       ready = λ other. c.in-Ok-commit.ensures.open;
-      journal = λ size content. no_bad_journal terms size content c.in-Ok-do_work.reply named;
+      journal = λ terms content. no_bad_journal terms content c.in-Ok-do_work.reply named;
       size = c.commit.ensures.size;
       patterns = c.commit.ensures.patterns;
       moment = λ t. omega (arith, (c.do_work.ensures.wrote t).moments.later, c.commit.ensures.moment t);

@@ -12,9 +12,9 @@ use Rattle.engine.proofs.Turning.{stays_here}
 use Rattle.engine.proofs.kept.Engine.perform.Goals as goal
 
 pub returns-in-Answer-clause-turn : goal.returns-in-Answer-clause-turn
-returns-in-Answer-clause-turn g c = λ told tells history stands event of. (
+returns-in-Answer-clause-turn g c = λ terms told tells history stands event of. (
   at history c.args.self.now.clock,
-  answer-turn terms c.args.self.now.journal.size told history event c.args.self.now.clock _ c.in-Answer.field-0
+  answer-turn terms told history event c.args.self.now.clock _ c.in-Answer.field-0
       (subst (λ (p : Plan). IsPlanOf (after terms history) (answer_to terms (after terms history) c.args.self.now.clock event) p) c.in-Answer.is of)
       (course_goes c.in-Answer.field-0 _ (subst (λ (p : Plan). IsPerformable c.args.self.now.site p) c.in-Answer.is c.requires.performable)),
   stays_here terms told g.B.Bank.view c.args.self.now _ (at history c.args.self.now.clock) stands (λ fields keeps. keeps) refl refl refl refl (λ t. nothing_read _ (g.met.B.Bank.sound _ (tells t))),
@@ -30,15 +30,15 @@ returns-in-Answer-clause-served g c =
         journal_fault = λ e zero. absurd (no_fault c.in-Answer.field-0 named e);
       };
       ready = λ other. c.requires.ready;
-      journal = λ size content. no_bad_journal terms size content c.in-Answer.field-0 named;
+      journal = λ terms content. no_bad_journal terms content c.in-Answer.field-0 named;
       size = refl;
       patterns = refl;
       moment = λ t. omega arith;
     }
 
 pub returns-in-Make-clause-turn : goal.returns-in-Make-clause-turn
-returns-in-Make-clause-turn g c = λ told tells history stands event of.
-    c.make.ensures.turn told tells history stands event
+returns-in-Make-clause-turn g c = λ terms told tells history stands event of.
+    c.make.ensures.turn terms told tells history stands event
     (subst (λ (p : Plan). IsPlanOf (after terms history) (answer_to terms (after terms history) c.args.self.now.clock event) p) c.in-Make.is of)
 
 pub make-requires-clause-recordable : goal.make-requires-clause-recordable
