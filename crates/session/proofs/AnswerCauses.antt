@@ -12,6 +12,7 @@ use Rattle.site_types.specs.declared.file.FileRec.{FileRec}
 use Rattle.site_types.specs.declared.file.SiteTexts.{SiteTexts}
 use Rattle.configuration.specs.declared.read.FileRefusal.{FileRefusal}
 use Rattle.configuration.specs.ConfigurationSteps.{refusal_of, are_within}
+use Rattle.site_history.specs.Terms.{Terms}
 use Rattle.site_history.specs.Site.{Fields, FileBytes, Site, file_at}
 use Rattle.site_history.specs.Steps.{HistoryStep}
 use Rattle.site_history.specs.Answers.{Answer, answer_to, put_rule, put_answer_by, read_answer_of, remove_answer_of, conf_refused, has_files, configure_refusal, configure_answer, configure_answer_by}
@@ -55,17 +56,17 @@ configuration_calm fields moment texts = configure_calm (configure_refusal field
     (refusal_chosen (has_files fields) _ _ refl (refusal_chosen (not (are_within texts)) _ _ refl (conf_calm (refusal_of texts))))
 
 -- Nor is the answer to any other event.
-answer_calm : (site : Site) (moment : ℕ) (event : Event) → cause_of (answer_to site moment event).reply ≡ 0
-answer_calm site moment (PutEvent path owner group bytes) = put_calm (put_rule site.fields path owner group (length bytes)) site.fields moment path owner group bytes
-answer_calm site moment (ReadEvent path upto) = read_calm (file_at path site.fields.files) site.contents moment upto
-answer_calm site moment (RemoveEvent path) = remove_calm (file_at path site.fields.files) moment
-answer_calm site moment (ConfigureEvent texts) = configuration_calm site.fields moment texts
-answer_calm site moment _ = refl
+answer_calm : (terms : Terms) (site : Site) (moment : ℕ) (event : Event) → cause_of (answer_to terms site moment event).reply ≡ 0
+answer_calm terms site moment (PutEvent path owner group bytes) = put_calm (put_rule site.fields path owner group (length bytes)) site.fields moment path owner group bytes
+answer_calm terms site moment (ReadEvent path upto) = read_calm (file_at path site.fields.files) site.contents moment upto
+answer_calm terms site moment (RemoveEvent path) = remove_calm (file_at path site.fields.files) moment
+answer_calm terms site moment (ConfigureEvent texts) = configuration_calm site.fields moment texts
+answer_calm terms site moment _ = refl
 
 -- What the machine answers is no cause of a status.
-machine_calm : (size : ℕ) (history : List HistoryStep) (moment : ℕ) (event : Event) → cause_of (answer_in size history moment event).reply ≡ 0
-machine_calm size history moment event =
-    chosen (has_room size history (answer_to (after history) moment event).step) _ _ (answer_calm (after history) moment event) refl
+machine_calm : (terms : Terms) (history : List HistoryStep) (moment : ℕ) (event : Event) → cause_of (answer_in terms history moment event).reply ≡ 0
+machine_calm terms history moment event =
+    chosen (has_room terms history (answer_to terms (after terms history) moment event).step) _ _ (answer_calm terms (after terms history) moment event) refl
 
 -- A reply that is no cause of a status is the defined one.
 pub calm_goes : (reply : Reply) (area : ℕ) → cause_of reply ≡ 0 → course_of reply area ≡ Goes
@@ -83,20 +84,20 @@ same_cause false _ reply e = ap cause_of e
 abbrev pub CauseOf : Reply → Type 0
 CauseOf reply = (cause_of reply ≡ 0) ⊎ (((cause_of reply ≡ 3) × (faults_of reply + folder_faults_of reply ≡ 1)) ⊎ (cause_of reply ≡ 9))
 
-pub turn_cause : (size : ℕ) (told : Bool) (history : List HistoryStep) (event : Event) (moment area : ℕ) (reply : Reply) (w' : World) → Turn size told history event moment area reply w' → CauseOf reply
-turn_cause size told history event moment area BankFault w' turn = inr (inl (refl, refl))
-turn_cause size told history event moment area NoMemory w' turn = inr (inr refl)
-turn_cause size told history event moment area FolderFault w' turn = absurd (omega (arith, same_cause told _ FolderFault turn.0, machine_calm size history moment event))
-turn_cause size told history event moment area (BadJournal place) w' turn = absurd (omega (arith, same_cause told _ (BadJournal place) turn.0, machine_calm size history moment event))
-turn_cause size told history event moment area _ w' turn = inl refl
+pub turn_cause : (terms : Terms) (told : Bool) (history : List HistoryStep) (event : Event) (moment area : ℕ) (reply : Reply) (w' : World) → Turn terms told history event moment area reply w' → CauseOf reply
+turn_cause terms told history event moment area BankFault w' turn = inr (inl (refl, refl))
+turn_cause terms told history event moment area NoMemory w' turn = inr (inr refl)
+turn_cause terms told history event moment area FolderFault w' turn = absurd (omega (arith, same_cause told _ FolderFault turn.0, machine_calm terms history moment event))
+turn_cause terms told history event moment area (BadJournal place) w' turn = absurd (omega (arith, same_cause told _ (BadJournal place) turn.0, machine_calm terms history moment event))
+turn_cause terms told history event moment area _ w' turn = inl refl
 
 -- An event tells no fault of the folder.
-no_folder_fault : (due : Bool) (size : ℕ) (told : Bool) (w : World) (event : Event) (now area : ℕ) (journal : Content) (w' : World) → EventTurnBy due size told w event now area journal FolderFault w' → ⊥
-no_folder_fault false size told w event now area journal w' turn = omega (arith, same_cause told _ FolderFault turn.0, machine_calm size w.history (moment_of w.clock now) event)
-no_folder_fault true size told w event now area journal w' (inl (steps, reopened, turn)) = omega (arith, same_cause told _ FolderFault turn.0, machine_calm size steps (moment_of (clock_from told w steps) now) event)
-no_folder_fault true size told w event now area journal w' (inr (refuses, same)) = refuses
+no_folder_fault : (terms : Terms) (due : Bool) (told : Bool) (w : World) (event : Event) (now area : ℕ) (journal : Content) (w' : World) → EventTurnBy terms due told w event now area journal FolderFault w' → ⊥
+no_folder_fault terms false told w event now area journal w' turn = omega (arith, same_cause told _ FolderFault turn.0, machine_calm terms w.history (moment_of w.clock now) event)
+no_folder_fault terms true told w event now area journal w' (inl (steps, reopened, turn)) = omega (arith, same_cause told _ FolderFault turn.0, machine_calm terms steps (moment_of (clock_from terms told w steps) now) event)
+no_folder_fault terms true told w event now area journal w' (inr (refuses, same)) = refuses
 
-pub event_folder : (size : ℕ) (told : Bool) (w : World) (event : Event) (now area : ℕ) (journal : Content) (reply : Reply) (w' : World) (before after : ℕ) → EventTurn size told w event now area journal reply w' → before ≤ after
-    → AreCounted before (folder_faults_of reply) after
-event_folder size told w event now area journal FolderFault w' before after turn later = absurd (no_folder_fault w.due size told w event now area journal w' turn)
-event_folder size told w event now area journal _ w' before after turn later = omega (arith, later)
+pub event_folder : (terms : Terms) (told : Bool) (w : World) (event : Event) (now area : ℕ) (journal : Content) (reply : Reply) (w' : World) (before after terms : ℕ) → EventTurn terms told w event now area journal reply w' → before ≤ after terms
+    → AreCounted before (folder_faults_of reply) after terms
+event_folder terms told w event now area journal FolderFault w' before after terms turn later = absurd (no_folder_fault terms w.due told w event now area journal w' turn)
+event_folder terms told w event now area journal _ w' before after terms turn later = omega (arith, later)

@@ -10,6 +10,7 @@ use Rattle.bank.specs.View.{View, IsImage, IsSound}
 use Rattle.desk.specs.Texts.{text_of}
 use Rattle.input.specs.Reading.{Reading, Items, Moved}
 use Rattle.input.proofs.Steps.{stays, then_moved}
+use Rattle.site_history.specs.Terms.{Terms}
 use Rattle.site_history.specs.Worlds.{World}
 use Rattle.site_history.specs.Images.{ReadsAs}
 use Rattle.session.specs.Asking.{Request}
@@ -32,8 +33,8 @@ cases : (b : Bool) → (b ≡ true) ⊎ (b ≡ false)
 cases true = inl refl
 cases false = inr refl
 
-module _ (Asks : Items Request) (Stands : World → Type 0) (tells : Bool) (size : ℕ) (store : View) (old now : Outside) (start reader : Reading) (first : Stage) (rests : first.world.due ≡ false) (moment : ℕ) (marks : List Mark) (status : ℕ)
-    (r : Ran Asks Stands tells size store old now start reader first moment marks status) where
+module _ (terms : Terms) (Asks : Items Request) (Stands : World → Type 0) (tells : Bool) (store : View) (old now : Outside) (start reader : Reading) (first : Stage) (rests : first.world.due ≡ false) (moment : ℕ) (marks : List Mark) (status : ℕ)
+    (r : Ran terms Asks Stands tells store old now start reader first moment marks status) where
   -- the reader stopped, and no request was left
   module _ (left' : Option (List ℕ)) (reader' : Reading) (used beyond : List ℕ) (m : Moved now.left left' reader reader' used beyond) where
     all_moved : Moved old.left left' start reader' (r.used ++ used) beyond
@@ -47,13 +48,13 @@ module _ (Asks : Items Request) (Stands : World → Type 0) (tells : Bool) (size
 
     at_read : (source_faults : ℕ) → start.held ≡ [] → start.ended ≡ false → reader'.held ≡ [] → Asks used reader'.ended ≡ [] → (reader.ended ≡ true → used ≡ []) → (ending : Ending)
         → Ends start.budget old (record now { left = left'; source_faults = source_faults }) all_moved.more beyond reader'.ended r.rounds [] [] [] [] ending
-        → IsSession Asks Stands tells size start.budget store old (record now { left = left'; source_faults = source_faults }) first marks (first_of status (status_of ending))
+        → IsSession terms Asks Stands tells start.budget store old (record now { left = left'; source_faults = source_faults }) first marks (first_of status (status_of ending))
     at_read source_faults fresh was_open drained none again ending ends =
         let same : all_moved.more ≡ (r.used ++ used) ++ reader'.held = ap (λ (l : List ℕ). l ++ all_moved.more) (sym fresh) ∙ all_moved.split in
         let nil = append-nil r.rounds in
         let asks : asked (r.rounds ++ []) ++ [] ≡ Asks all_moved.more reader'.ended =
         append-nil (asked (r.rounds ++ [])) ∙ ap asked nil ∙ sym (ap (λ (l : List ℕ). Asks l reader'.ended) same ∙ all_asked drained none again) in
-        let run : IsRun size tells old.folder first (r.rounds ++ []) = subst (λ (l : List Round). IsRun size tells old.folder first l) (sym nil) r.run in
+        let run : IsRun terms tells old.folder first (r.rounds ++ []) = subst (λ (l : List Round). IsRun terms tells old.folder first l) (sym nil) r.run in
         record {
           read = all_moved.more;
           beyond = beyond;
@@ -73,7 +74,7 @@ module _ (Asks : Items Request) (Stands : World → Type 0) (tells : Bool) (size
           written = subst (λ (l : List ℕ). Appends old.written now.written l) (sym (append-nil (output r.rounds))) r.written;
           marks_told = r.marks_told;
           in_time = λ t. subst (λ (l : List Round). AreInTime old.moment l now.moment) (sym nil) (r.in_time t);
-          kept = λ t. subst (λ (l : List Round). AreKept size store old.moment first.world l) (sym nil) (r.kept t);
+          kept = λ t. subst (λ (l : List Round). AreKept terms store old.moment first.world l) (sym nil) (r.kept t);
           counted = subst (λ (l : List Round). AreCounted old.bank_faults (faults_in l) now.bank_faults) (sym nil) r.counted;
           journals_stood = λ t. subst (λ (l : List Round). JournalsStood store old.moment l) (sym nil) (r.journals_stood t);
           journal_counted = subst (λ (l : List Round). AreCounted old.journal_faults (journal_faults_in l) now.journal_faults) (sym nil) r.journal_counted;
@@ -83,14 +84,14 @@ module _ (Asks : Items Request) (Stands : World → Type 0) (tells : Bool) (size
           ending = ending;
           ends = ends;
           first_cause = ap (λ (n : ℕ). first_of n (status_of ending)) r.status_now ∙ status_then r.rounds (status_of ending) ∙ ap (λ (l : List Round). status_from l (status_of ending)) (sym nil);
-          fixed = subst (λ (l : List Request). AreTold tells (calm old.folder (r.rounds ++ [])) (machine_run size (texts_told old.folder) first (take (length (calm old.folder (r.rounds ++ []))) l))) asks
-              (fixed_run size tells old.folder first (r.rounds ++ []) [] rests run);
+          fixed = subst (λ (l : List Request). AreTold tells (calm old.folder (r.rounds ++ [])) (machine_run terms (texts_told old.folder) first (take (length (calm old.folder (r.rounds ++ []))) l))) asks
+              (fixed_run terms tells old.folder first (r.rounds ++ []) [] rests run);
         }
 
   -- the reader stopped
   pub stopped_at : (left' : Option (List ℕ)) (source_faults : ℕ) (reader' : Reading) → start.held ≡ [] → start.ended ≡ false → old.source_faults ≤ now.source_faults → (ending : Ending)
       → Stops Asks now.left left' now.source_faults source_faults reader reader' ending
-      → IsSession Asks Stands tells size start.budget store old (record now { left = left'; source_faults = source_faults }) first marks (first_of status (status_of ending))
+      → IsSession terms Asks Stands tells start.budget store old (record now { left = left'; source_faults = source_faults }) first marks (first_of status (status_of ending))
   stopped_at left' source_faults reader' fresh was_open later Ended s =
       at_read left' reader' s.used [] s.moved source_faults fresh was_open s.nothing_held (ap (λ (b : Bool). Asks s.used b) s.ended ∙ s.none) s.again Ended (r.go_on, refl, s.ended, refl, refl)
   stopped_at left' source_faults reader' fresh was_open later SourceFault s =
@@ -107,7 +108,7 @@ module _ (Asks : Items Request) (Stands : World → Type 0) (tells : Bool) (size
 
   -- a line that asks nothing was read
   pub goes_over : (left' : Option (List ℕ)) (source_faults : ℕ) (reader' : Reading) → Takes Asks now.left left' reader reader' []
-      → Ran Asks Stands tells size store old (record now { left = left'; source_faults = source_faults }) start reader' first moment marks status
+      → Ran terms Asks Stands tells store old (record now { left = left'; source_faults = source_faults }) start reader' first moment marks status
   goes_over left' source_faults reader' t = record {
     rounds = r.rounds;
     used = r.used ++ t.used;
@@ -134,15 +135,12 @@ module _ (Asks : Items Request) (Stands : World → Type 0) (tells : Bool) (size
   -- a request was read, and its round was made
   module _ (left' : Option (List ℕ)) (source_faults : ℕ) (reader' : Reading) (request : Request) (t : Takes Asks now.left left' reader reader' (request ∷ []))
       (Stands' : World → Type 0) (store' : View) (written' : Option (List ℕ)) (sink_faults : ℕ) (folder' : Option (List NamedText)) (folder_faults bank_faults journal_faults last_fault : ℕ) (marks' : List Mark) (status' : ℕ) (end : Option Ending)
-      (round : Round) (size' : ℕ) (same_size : size' ≡ size) (same_moment : now.moment ≡ store.moment) (same_folder : folder' ≡ now.folder)
-      (made : IsRound Stands' tells size' now.folder store store' (stage_after first r.rounds) request now.written written' now.sink_faults sink_faults now.folder_faults folder_faults now.bank_faults bank_faults now.journal_faults journal_faults last_fault
+      (round : Round) (same_moment : now.moment ≡ store.moment) (same_folder : folder' ≡ now.folder)
+      (made : IsRound terms Stands' tells now.folder store store' (stage_after first r.rounds) request now.written written' now.sink_faults sink_faults now.folder_faults folder_faults now.bank_faults bank_faults now.journal_faults journal_faults last_fault
       marks marks' status status' end round) where
-    abbrev Made : ℕ → Type 0
-    Made n = IsRound Stands' tells n now.folder store store' (stage_after first r.rounds) request now.written written' now.sink_faults sink_faults now.folder_faults folder_faults now.bank_faults bank_faults now.journal_faults journal_faults last_fault
+    ir : IsRound terms Stands' tells now.folder store store' (stage_after first r.rounds) request now.written written' now.sink_faults sink_faults now.folder_faults folder_faults now.bank_faults bank_faults now.journal_faults journal_faults last_fault
         marks marks' status status' end round
-
-    ir : Made size
-    ir = subst Made same_size made
+    ir = made
 
     abbrev new : Outside
     new = record {
@@ -172,12 +170,12 @@ module _ (Asks : Items Request) (Stands : World → Type 0) (tells : Bool) (size
     whole_then : reader'.ended ≡ true → Asks (r.used ++ t.used) true ≡ asked (r.rounds ++ round ∷ [])
     whole_then e = r.opened t.was_open t.used true ∙ ap (λ (l : List Request). asked r.rounds ++ l) (t.last e) ∙ sym asked_then
 
-    turn_then : IsRoundOf size tells old.folder (stage_after first r.rounds) round.asked round.area round.journal round.reply round.after
-    turn_then = subst (λ (x : Request). IsRoundOf size tells old.folder (stage_after first r.rounds) x round.area round.journal round.reply round.after) (sym ir.same)
-        (subst (λ (f : Option (List NamedText)). IsRoundOf size tells f (stage_after first r.rounds) request round.area round.journal round.reply round.after) r.folder_stays ir.turn)
+    turn_then : IsRoundOf terms tells old.folder (stage_after first r.rounds) round.asked round.area round.journal round.reply round.after
+    turn_then = subst (λ (x : Request). IsRoundOf terms tells old.folder (stage_after first r.rounds) x round.area round.journal round.reply round.after) (sym ir.same)
+        (subst (λ (f : Option (List NamedText)). IsRoundOf terms tells f (stage_after first r.rounds) request round.area round.journal round.reply round.after) r.folder_stays ir.turn)
 
-    run_then : IsRun size tells old.folder first (r.rounds ++ round ∷ [])
-    run_then = run_more size tells old.folder first r.rounds round r.run turn_then
+    run_then : IsRun terms tells old.folder first (r.rounds ++ round ∷ [])
+    run_then = run_more terms tells old.folder first r.rounds round r.run turn_then
 
     stands_then : Stands' (stage_after first (r.rounds ++ round ∷ [])).world
     stands_then = subst Stands' (ap (λ (s : Stage). s.world) (sym (after_more first r.rounds round))) ir.stands
@@ -189,8 +187,8 @@ module _ (Asks : Items Request) (Stands : World → Type 0) (tells : Bool) (size
     in_time_then told = in_time_more old.moment store.moment store'.moment r.rounds round (before_then told)
         (omega (arith, (ir.meanwhile told).later, ir.moment told), omega (arith, ir.moment told))
 
-    kept_then : IsTrue tells → AreKept size store' old.moment first.world (r.rounds ++ round ∷ [])
-    kept_then told = kept_more size store store' old.moment first r.rounds round (r.kept told) (before_then told) (ir.meanwhile told) (ir.moment told) (ir.since told)
+    kept_then : IsTrue tells → AreKept terms store' old.moment first.world (r.rounds ++ round ∷ [])
+    kept_then told = kept_more terms store store' old.moment first r.rounds round (r.kept told) (before_then told) (ir.meanwhile told) (ir.moment told) (ir.since told)
 
     counted_then : AreCounted old.bank_faults (faults_in (r.rounds ++ round ∷ [])) bank_faults
     counted_then = subst (λ (n : ℕ). AreCounted old.bank_faults n bank_faults) (sym (faults_more r.rounds round)) (counted_more old.bank_faults (faults_in r.rounds) (faults_of round.reply) now.bank_faults bank_faults r.counted ir.counted)
@@ -224,7 +222,7 @@ module _ (Asks : Items Request) (Stands : World → Type 0) (tells : Bool) (size
     written_then h = subst (λ (l : List ℕ). Appends old.written written' l) (sym (output_more r.rounds round)) (Appends-trans old.written now.written written' (output r.rounds) (text_of round.reply) r.written h)
 
     pub goes_on : (moment' : ℕ) → moment' ≡ round.after.now → Tells now.written written' now.sink_faults sink_faults marks marks' None round.reply (mark_of (length marks + 1) round)
-        → Ran Asks Stands' tells size store' old new start reader' first moment' marks' status'
+        → Ran terms Asks Stands' tells store' old new start reader' first moment' marks' status'
     goes_on moment' same_now told = record {
       rounds = r.rounds ++ round ∷ [];
       used = r.used ++ t.used;
@@ -265,12 +263,12 @@ module _ (Asks : Items Request) (Stands : World → Type 0) (tells : Bool) (size
     at_round : start.held ≡ [] → start.ended ≡ false → (told untold : List Round) → told ++ untold ≡ r.rounds ++ round ∷ [] → (cut lost : List ℕ) → cut ++ lost ≡ output untold
         → Appends old.written written' (output told ++ cut) → marks' ≡ marks_from 0 told → (ending : Ending)
         → Ends start.budget old new moved_then.more [] reader'.ended told untold cut lost unasked ending
-        → IsSession Asks Stands' tells size start.budget store' old new first marks' (first_of status' (status_of ending))
+        → IsSession terms Asks Stands' tells start.budget store' old new first marks' (first_of status' (status_of ending))
     at_round fresh was_open told untold all cut lost cut_off written marks_told ending ends =
         let same : moved_then.more ≡ (r.used ++ t.used) ++ reader'.held = ap (λ (l : List ℕ). l ++ moved_then.more) (sym fresh) ∙ moved_then.split in
         let asks : asked (told ++ untold) ++ unasked ≡ Asks moved_then.more reader'.ended =
         ap (λ (l : List Round). asked l ++ unasked) all ∙ sym (ap (λ (l : List ℕ). Asks l reader'.ended) same ∙ asks_round) in
-        let run : IsRun size tells old.folder first (told ++ untold) = subst (λ (l : List Round). IsRun size tells old.folder first l) (sym all) run_then in
+        let run : IsRun terms tells old.folder first (told ++ untold) = subst (λ (l : List Round). IsRun terms tells old.folder first l) (sym all) run_then in
         record {
           read = moved_then.more;
           beyond = [];
@@ -290,7 +288,7 @@ module _ (Asks : Items Request) (Stands : World → Type 0) (tells : Bool) (size
           written = written;
           marks_told = marks_told;
           in_time = λ t. subst (λ (l : List Round). AreInTime old.moment l store'.moment) (sym all) (in_time_then t);
-          kept = λ t. subst (λ (l : List Round). AreKept size store' old.moment first.world l) (sym all) (kept_then t);
+          kept = λ t. subst (λ (l : List Round). AreKept terms store' old.moment first.world l) (sym all) (kept_then t);
           counted = subst (λ (l : List Round). AreCounted old.bank_faults (faults_in l) bank_faults) (sym all) counted_then;
           journals_stood = λ t. subst (λ (l : List Round). JournalsStood store' old.moment l) (sym all) (stood_then t);
           journal_counted = subst (λ (l : List Round). AreCounted old.journal_faults (journal_faults_in l) journal_faults) (sym all) journal_counted_then;
@@ -300,13 +298,13 @@ module _ (Asks : Items Request) (Stands : World → Type 0) (tells : Bool) (size
           ending = ending;
           ends = ends;
           first_cause = status_later (status_of ending) ∙ ap (λ (l : List Round). status_from l (status_of ending)) (sym all);
-          fixed = subst (λ (l : List Request). AreTold tells (calm old.folder (told ++ untold)) (machine_run size (texts_told old.folder) first (take (length (calm old.folder (told ++ untold))) l))) asks
-              (fixed_run size tells old.folder first (told ++ untold) unasked rests run);
+          fixed = subst (λ (l : List Request). AreTold tells (calm old.folder (told ++ untold)) (machine_run terms (texts_told old.folder) first (take (length (calm old.folder (told ++ untold))) l))) asks
+              (fixed_run terms tells old.folder first (told ++ untold) unasked rests run);
         }
 
     pub ends_at : start.held ≡ [] → start.ended ≡ false → old.sink_faults ≤ now.sink_faults → (ending : Ending)
         → Tells now.written written' now.sink_faults sink_faults marks marks' (Some ending) round.reply (mark_of (length marks + 1) round)
-        → IsSession Asks Stands' tells size start.budget store' old new first marks' (first_of status' (status_of ending))
+        → IsSession terms Asks Stands' tells start.budget store' old new first marks' (first_of status' (status_of ending))
     ends_at fresh was_open later Closed told =
         at_round fresh was_open (r.rounds ++ round ∷ []) [] (append-nil (r.rounds ++ round ∷ [])) [] [] refl
         (subst (λ (l : List ℕ). Appends old.written written' l) (sym (append-nil (output (r.rounds ++ round ∷ [])))) (written_then told.0)) (marks_then told.1) Closed
@@ -324,11 +322,11 @@ module _ (Asks : Items Request) (Stands : World → Type 0) (tells : Bool) (size
     ends_at fresh was_open later OverBudget told = absurd told
 
 -- Nothing was asked yet.
-pub begun : (Asks : Items Request) (Stands : World → Type 0) (tells : Bool) (size : ℕ) (store : View) (now : Outside) (start : Reading) (first : Stage) (moment : ℕ) (marks : List Mark) (status : ℕ)
+pub begun : (terms : Terms) (Asks : Items Request) (Stands : World → Type 0) (tells : Bool) (store : View) (now : Outside) (start : Reading) (first : Stage) (moment : ℕ) (marks : List Mark) (status : ℕ)
     → marks ≡ [] → status ≡ 0 → start.ended ≡ false → Stands first.world → moment ≡ first.now → now.moment ≡ store.moment
-    → (IsTrue tells → IsSound store) → (IsTrue tells → (c : Image) → IsImage store c → ReadsAs size first.world c)
-    → Ran Asks Stands tells size store now now start start first moment marks status
-begun Asks Stands tells size store now start first moment marks status none_marked no_cause was_open stands at_moment same_moment sound images = record {
+    → (IsTrue tells → IsSound store) → (IsTrue tells → (c : Image) → IsImage store c → ReadsAs terms first.world c)
+    → Ran terms Asks Stands tells store now now start start first moment marks status
+begun terms Asks Stands tells store now start first moment marks status none_marked no_cause was_open stands at_moment same_moment sound images = record {
   rounds = [];
   used = [];
   moved = stays now.left start;
@@ -341,7 +339,7 @@ begun Asks Stands tells size store now start first moment marks status none_mark
   written = Appends-nil now.written;
   marks_told = none_marked;
   in_time = λ t. omega arith;
-  kept = λ t. subst (λ (m : ℕ). AreKept size store m first.world []) (sym same_moment) (kept_begun size store first.world (sound t) (images t));
+  kept = λ t. subst (λ (m : ℕ). AreKept terms store m first.world []) (sym same_moment) (kept_begun terms store first.world (sound t) (images t));
   counted = omega arith;
   journal_counted = omega arith;
   last_area = tt;

@@ -4,6 +4,7 @@ use Rattle.outside.specs.declared.folder.NamedText.{NamedText}
 use Rattle.bank.specs.Content.{Content}
 use Rattle.bank.specs.View.{View, IsSound, OnlyRead}
 use Rattle.input.specs.Reading.{Items}
+use Rattle.site_history.specs.Terms.{Terms}
 use Rattle.site_history.specs.Steps.{HistoryStep}
 use Rattle.site_history.specs.Worlds.{World, new_world, IsFound}
 use Rattle.site_history.specs.Images.{IsSettled, IsSettledAs, ReadsAs}
@@ -26,8 +27,8 @@ use Rattle.session.proofs.Refusals.{refusal_exits}
 use Rattle.session.proofs.Owing.{owed_by_fault}
 
 -- Earlier counts of the store's faults, and less of where the engine stands.
-module _ (Asks : Items Request) (Stands Stands' : World → Type 0) (tells : Bool) (size budget : ℕ) (store : View) (old new : Outside) (bank_faults journal_faults last_fault : ℕ) (first : Stage) (marks : List Mark) (status : ℕ)
-    (s : IsSession Asks Stands tells size budget store old new first marks status) where
+module _ (terms : Terms) (Asks : Items Request) (Stands Stands' : World → Type 0) (tells : Bool) (budget : ℕ) (store : View) (old new : Outside) (bank_faults journal_faults last_fault : ℕ) (first : Stage) (marks : List Mark) (status : ℕ)
+    (s : IsSession terms Asks Stands tells budget store old new first marks status) where
   ends_still : (ending : Ending) → Ends budget old new s.read s.beyond s.met_end s.told s.untold s.cut s.lost s.unasked ending
       → Ends budget (record old { bank_faults = bank_faults; journal_faults = journal_faults; last_fault = last_fault }) new s.read s.beyond s.met_end s.told s.untold s.cut s.lost s.unasked ending
   ends_still Ending.Ended e = e
@@ -38,7 +39,7 @@ module _ (Asks : Items Request) (Stands Stands' : World → Type 0) (tells : Boo
   ends_still Ending.NoMemory e = e
 
   counted_earlier : bank_faults ≤ old.bank_faults → journal_faults ≤ old.journal_faults → ((w : World) → Stands w → Stands' w)
-      → IsSession Asks Stands' tells size budget store (record old { bank_faults = bank_faults; journal_faults = journal_faults; last_fault = last_fault }) new first marks status
+      → IsSession terms Asks Stands' tells budget store (record old { bank_faults = bank_faults; journal_faults = journal_faults; last_fault = last_fault }) new first marks status
   counted_earlier fewer fewer_journal stands = record {
     read = s.read;
     beyond = s.beyond;
@@ -72,20 +73,19 @@ module _ (Asks : Items Request) (Stands Stands' : World → Type 0) (tells : Boo
   }
 
 -- What a crash left since a mark holds the steps that the mark counts.
-all_held : (size : ℕ) (store : View) (tells : Bool) (old new : Outside) (first : Stage) (marks : List Mark) (Stands : World → Type 0) (budget status : ℕ)
-    → (s : IsSession asks_of Stands tells size budget store old new first marks status) → IsTrue tells → AreHeld size store (stage_after first (s.told ++ s.untold)).world.history marks
-all_held size store tells old new first marks Stands budget status s t =
-    subst (λ (ms : List Mark). AreHeld size store (stage_after first (s.told ++ s.untold)).world.history ms) (sym s.marks_told)
-    (marks_held size old.folder store old.moment 0 first s.told s.untold (s.kept t) (subst (λ (b : Bool). IsRun size b old.folder first (s.told ++ s.untold)) t s.run))
+all_held : (terms : Terms) (store : View) (tells : Bool) (old new : Outside) (first : Stage) (marks : List Mark) (Stands : World → Type 0) (budget status : ℕ)
+    → (s : IsSession terms asks_of Stands tells budget store old new first marks status) → IsTrue tells → AreHeld terms store (stage_after first (s.told ++ s.untold)).world.history marks
+all_held terms store tells old new first marks Stands budget status s t =
+    subst (λ (ms : List Mark). AreHeld terms store (stage_after first (s.told ++ s.untold)).world.history ms) (sym s.marks_told)
+    (marks_held terms old.folder store old.moment 0 first s.told s.untold (s.kept t) (subst (λ (b : Bool). IsRun terms b old.folder first (s.told ++ s.untold)) t s.run))
 
 -- An engine that stands for a world leaves its store settled for it.
-leaves_settled : {B P : Type 0} (told : Bool) (view : B → View) (engine : Engine B P) (size : ℕ) (w : World) → engine.journal.size ≡ size → (IsTrue told → IsSound (view engine.bank)) → StandsFor told view engine w
-    → IsTrue told → IsSettledAs size (view engine.bank) w
-leaves_settled told view engine size w same sound stands t =
-    settled_as size (view engine.bank) w (sound t) (λ c image. subst (λ (n : ℕ). ReadsAs n w c) same (stands.images t c image))
+leaves_settled : (terms : Terms) → {B P : Type 0} (told : Bool) (view : B → View) (engine : Engine B P) (w : World) → (IsTrue told → IsSound (view engine.bank)) → StandsFor terms told view engine w
+    → IsTrue told → IsSettledAs terms (view engine.bank) w
+leaves_settled terms told view engine w sound stands t = settled_as terms (view engine.bank) w (sound t) (λ c image. stands.images t c image)
 
 -- What a call hands back after a session.
-module _ {B P : Type 0} (told : Bool) (faults journal_faults last_fault : B → ℕ) (view : B → View) (left left' : Option (List ℕ)) (source_faults source_faults' : ℕ) (written written' : Option (List ℕ)) (sink_faults sink_faults' : ℕ)
+module _ (terms : Terms) {B P : Type 0} (told : Bool) (faults journal_faults last_fault : B → ℕ) (view : B → View) (left left' : Option (List ℕ)) (source_faults source_faults' : ℕ) (written written' : Option (List ℕ)) (sink_faults sink_faults' : ℕ)
     (texts texts' : Option (List NamedText)) (folder_faults folder_faults' : ℕ) (bank : B) (opening closing : Engine B P) (before : List HistoryStep) where
   -- what is told before the call, once the store is open, and at the end
   abbrev seen_at : B → Outside
@@ -122,50 +122,49 @@ module _ {B P : Type 0} (told : Bool) (faults journal_faults last_fault : B → 
     moment = (view to).moment;
   }
 
-  answered : (found : List HistoryStep) (budget : ℕ) (marks : List Mark) (status : ℕ) → IsFound told before found → (IsTrue told → OnlyRead (view bank) (view opening.bank))
-      → (IsTrue told → IsSettled journal_bytes (view bank) before) → (IsTrue told → IsSound (view closing.bank)) → faults bank ≤ faults opening.bank → journal_faults bank ≤ journal_faults opening.bank → closing.journal.size ≡ journal_bytes
+  answered : (found : List HistoryStep) (budget : ℕ) (marks : List Mark) (status : ℕ) → IsFound terms told before found → (IsTrue told → OnlyRead (view bank) (view opening.bank))
+      → (IsTrue told → IsSettled terms (view bank) before) → (IsTrue told → IsSound (view closing.bank)) → faults bank ≤ faults opening.bank → journal_faults bank ≤ journal_faults opening.bank
       → (IsTrue told → Passes (view opening.bank) (view closing.bank))
-      → IsSession asks_of (StandsFor told view closing) told journal_bytes budget (view closing.bank) seen_open (seen_after closing.bank) (stage_of found) marks status
-      → IsAnswered told budget (view bank) (view closing.bank) seen_before (seen_after closing.bank) before marks status
-  answered found budget marks status is_found read settled sound fewer fewer_journal same_size passes session =
-      let Settled : World → Type 0 = λ w. IsTrue told → IsSettledAs journal_bytes (view closing.bank) w in
-      let whole_call : IsSession asks_of Settled told journal_bytes budget (view closing.bank) (record seen_open { bank_faults = faults bank; journal_faults = journal_faults bank; last_fault = last_fault bank }) (seen_after closing.bank) (stage_of found) marks status =
-      counted_earlier asks_of (StandsFor told view closing) Settled told journal_bytes budget (view closing.bank) seen_open (seen_after closing.bank)
-      (faults bank) (journal_faults bank) (last_fault bank) (stage_of found) marks status session fewer fewer_journal (λ w stands. leaves_settled told view closing journal_bytes w same_size sound stands) in
+      → IsSession terms asks_of (StandsFor terms told view closing) told budget (view closing.bank) seen_open (seen_after closing.bank) (stage_of terms found) marks status
+      → IsAnswered terms told budget (view bank) (view closing.bank) seen_before (seen_after closing.bank) before marks status
+  answered found budget marks status is_found read settled sound fewer fewer_journal passes session =
+      let Settled : World → Type 0 = λ w. IsTrue told → IsSettledAs terms (view closing.bank) w in
+      let whole_call : IsSession terms asks_of Settled told budget (view closing.bank) (record seen_open { bank_faults = faults bank; journal_faults = journal_faults bank; last_fault = last_fault bank }) (seen_after closing.bank) (stage_of terms found) marks status =
+      counted_earlier terms asks_of (StandsFor terms told view closing) Settled told budget (view closing.bank) seen_open (seen_after closing.bank)
+      (faults bank) (journal_faults bank) (last_fault bank) (stage_of terms found) marks status session fewer fewer_journal (λ w stands. leaves_settled terms told view closing w sound stands) in
       record {
         found = found;
         is_found = is_found;
         opened = (view opening.bank).moment;
         opening = λ t. opening_later (view bank) (view opening.bank) (view closing.bank) (passes t) (opening_read (view bank) (view opening.bank) (read t));
         session = whole_call;
-        rests = owed_by_fault journal_bytes told texts (stage_of found) (whole_call.told ++ whole_call.untold) (journal_faults bank) (journal_faults closing.bank) refl refl whole_call.run whole_call.journal_counted;
-        acknowledged = all_held journal_bytes (view closing.bank) told (record seen_open { bank_faults = faults bank; journal_faults = journal_faults bank; last_fault = last_fault bank }) (seen_after closing.bank) (stage_of found) marks Settled budget status whole_call;
-        whole = whole_output (StandsFor told view closing) told journal_bytes budget (view closing.bank) seen_open (seen_after closing.bank) (stage_of found) refl marks status session;
+        rests = owed_by_fault terms told texts (stage_of terms found) (whole_call.told ++ whole_call.untold) (journal_faults bank) (journal_faults closing.bank) refl refl whole_call.run whole_call.journal_counted;
+        acknowledged = all_held terms (view closing.bank) told (record seen_open { bank_faults = faults bank; journal_faults = journal_faults bank; last_fault = last_fault bank }) (seen_after closing.bank) (stage_of terms found) marks Settled budget status whole_call;
+        whole = whole_output terms (StandsFor terms told view closing) told budget (view closing.bank) seen_open (seen_after closing.bank) (stage_of terms found) refl marks status session;
       }
 
   -- The same, by what the parts of the call say.
-  pub handed : (found : List HistoryStep) × IsFound told before found × StandsFor told view opening (new_world found) → (IsTrue told → OnlyRead (view bank) (view opening.bank))
-      → (IsTrue told → IsSettled journal_bytes (view bank) before) → (IsTrue told → IsSound (view closing.bank)) → faults bank ≤ faults opening.bank → journal_faults bank ≤ journal_faults opening.bank
-      → (size budget budget' moment : ℕ) (bank' : B) (marks marks' : List Mark) (status status' : ℕ) → size ≡ journal_bytes → closing.journal.size ≡ size → moment ≡ opening.clock
-      → ((stage : Stage) → StandsFor told view opening stage.world → moment ≡ stage.now → IsTrue told → Passes (view opening.bank) (view closing.bank))
-      → ((stage : Stage) → StandsFor told view opening stage.world → moment ≡ stage.now
-      → IsSession asks_of (StandsFor told view closing) told size budget' (view closing.bank) seen_open (seen_after closing.bank) stage marks status)
+  pub handed : (found : List HistoryStep) × IsFound terms told before found × StandsFor terms told view opening (new_world terms found) → (IsTrue told → OnlyRead (view bank) (view opening.bank))
+      → (IsTrue told → IsSettled terms (view bank) before) → (IsTrue told → IsSound (view closing.bank)) → faults bank ≤ faults opening.bank → journal_faults bank ≤ journal_faults opening.bank
+      → (budget budget' moment : ℕ) (bank' : B) (marks marks' : List Mark) (status status' : ℕ) → moment ≡ opening.clock
+      → ((stage : Stage) → StandsFor terms told view opening stage.world → moment ≡ stage.now → IsTrue told → Passes (view opening.bank) (view closing.bank))
+      → ((stage : Stage) → StandsFor terms told view opening stage.world → moment ≡ stage.now
+      → IsSession terms asks_of (StandsFor terms told view closing) told budget' (view closing.bank) seen_open (seen_after closing.bank) stage marks status)
       → budget' ≡ budget → bank' ≡ closing.bank → marks' ≡ marks → status' ≡ status
-      → IsAnswered told budget (view bank) (view bank') seen_before (seen_after bank') before marks' status'
-  handed reopened read settled sound fewer fewer_journal size budget budget' moment bank' marks marks' status status' is_size same_size at_clock passes session same_budget same_bank same_marks same_status =
-      let stage = stage_of reopened.0 in
+      → IsAnswered terms told budget (view bank) (view bank') seen_before (seen_after bank') before marks' status'
+  handed reopened read settled sound fewer fewer_journal budget budget' moment bank' marks marks' status status' at_clock passes session same_budget same_bank same_marks same_status =
+      let stage = stage_of terms reopened.0 in
       let now : moment ≡ stage.now = at_clock ∙ reopened.2.clock in
-      subst (λ (code : ℕ). IsAnswered told budget (view bank) (view bank') seen_before (seen_after bank') before marks' code) (sym same_status)
-      (subst (λ (ms : List Mark). IsAnswered told budget (view bank) (view bank') seen_before (seen_after bank') before ms status) (sym same_marks)
-      (subst (λ (b : B). IsAnswered told budget (view bank) (view b) seen_before (seen_after b) before marks status) (sym same_bank)
-      (answered reopened.0 budget marks status reopened.1 read settled sound fewer fewer_journal (same_size ∙ is_size) (passes stage reopened.2 now)
-      (subst (λ (n : ℕ). IsSession asks_of (StandsFor told view closing) told n budget (view closing.bank) seen_open (seen_after closing.bank) stage marks status) is_size
-      (subst (λ (b : ℕ). IsSession asks_of (StandsFor told view closing) told size b (view closing.bank) seen_open (seen_after closing.bank) stage marks status) same_budget
-      (session stage reopened.2 now))))))
+      subst (λ (code : ℕ). IsAnswered terms told budget (view bank) (view bank') seen_before (seen_after bank') before marks' code) (sym same_status)
+      (subst (λ (ms : List Mark). IsAnswered terms told budget (view bank) (view bank') seen_before (seen_after bank') before ms status) (sym same_marks)
+      (subst (λ (b : B). IsAnswered terms told budget (view bank) (view b) seen_before (seen_after b) before marks status) (sym same_bank)
+      (answered reopened.0 budget marks status reopened.1 read settled sound fewer fewer_journal (passes stage reopened.2 now)
+      (subst (λ (b : ℕ). IsSession terms asks_of (StandsFor terms told view closing) told b (view closing.bank) seen_open (seen_after closing.bank) stage marks status) same_budget
+      (session stage reopened.2 now)))))
 
 -- The causes of a status do not speak of the store's moment.
-status_at : (tells : Bool) (journal : Content) (budget : ℕ) (old new : Outside) (moment status : ℕ) → HasStatus tells journal budget (record old { moment = moment }) new status → HasStatus tells journal budget old new status
-status_at tells journal budget old new moment status h = record {
+status_at : (terms : Terms) (tells : Bool) (journal : Content) (budget : ℕ) (old new : Outside) (moment status : ℕ) → HasStatus terms tells journal budget (record old { moment = moment }) new status → HasStatus terms tells journal budget old new status
+status_at terms tells journal budget old new moment status h = record {
   bad_journal = h.bad_journal;
   fault = h.fault;
   source = h.source;
@@ -176,15 +175,15 @@ status_at tells journal budget old new moment status h = record {
   complete = h.complete;
 }
 
-module _ (told : Bool) (budget : ℕ) (entry store : View) (old new : Outside) (before : List HistoryStep) (marks : List Mark) (status : ℕ) where
+module _ (terms : Terms) (told : Bool) (budget : ℕ) (entry store : View) (old new : Outside) (before : List HistoryStep) (marks : List Mark) (status : ℕ) where
   -- The causes of the status of a call whose store was opened.
-  pub answered_status : (tells : Bool) (journal : Content) → (IsTrue tells → (found : List HistoryStep) × HoldsHistory journal_bytes journal found)
-      → IsAnswered told budget entry store old new before marks status → HasStatus tells journal budget old new status
-  answered_status tells journal holds a = status_at tells journal budget old new a.opened status
-      (session_status (λ w. IsTrue told → IsSettledAs journal_bytes store w) told journal_bytes budget store (record old { moment = a.opened }) new (stage_of a.found) refl marks status a.session tells journal
-      (λ t place bad. not_bad_journal journal_bytes journal (holds t).0 place (holds t).1 bad))
+  pub answered_status : (tells : Bool) (journal : Content) → (IsTrue tells → (found : List HistoryStep) × HoldsHistory terms journal found)
+      → IsAnswered terms told budget entry store old new before marks status → HasStatus terms tells journal budget old new status
+  answered_status tells journal holds a = status_at terms tells journal budget old new a.opened status
+      (session_status terms (λ w. IsTrue told → IsSettledAs terms store w) told budget store (record old { moment = a.opened }) new (stage_of terms a.found) refl marks status a.session tells journal
+      (λ t place bad. not_bad_journal terms journal (holds t).0 place (holds t).1 bad))
 
   -- No call over words that are a form ends with status 1.
-  pub never_one : (tells : Bool) → IsOutcome told tells budget entry store old new before marks status → status ≡ 1 → ⊥
-  never_one tells (inl a) h = session_exits (λ w. IsTrue told → IsSettledAs journal_bytes store w) told journal_bytes budget store (record old { moment = a.opened }) new (stage_of a.found) refl marks status a.session (inl h)
-  never_one tells (inr r) h = refusal_exits old new tells (entry.content 0) status r.0.refusal h
+  pub never_one : (tells : Bool) → IsOutcome terms told tells budget entry store old new before marks status → status ≡ 1 → ⊥
+  never_one tells (inl a) h = session_exits terms (λ w. IsTrue told → IsSettledAs terms store w) told budget store (record old { moment = a.opened }) new (stage_of terms a.found) refl marks status a.session (inl h)
+  never_one tells (inr r) h = refusal_exits terms old new tells (entry.content 0) status r.0.refusal h

@@ -2,6 +2,7 @@
 use Rattle.std.proofs.Common.{◌≡◌, ◌⊎◌, inl, inr, ⊎_elim, ℕ, ◌≤◌, List, [], ◌∷◌, ◌++◌, subst, arith}
 use Rattle.bank.specs.Content.{Image}
 use Rattle.bank.specs.View.{View, IsImage, IsSound, IsSince, LeavesOnly, OnlyRead}
+use Rattle.site_history.specs.Terms.{Terms}
 use Rattle.site_history.specs.Worlds.{World}
 use Rattle.site_history.specs.Images.{ReadsAs}
 use Rattle.session.specs.Rounds.{Stage, Round, stage_after, AreInTime, JournalsStood}
@@ -9,23 +10,23 @@ use Rattle.session.specs.Kept.{AreKept, IsOpening, Passes}
 use Rattle.session.proofs.RoundLaws.{in_time_to}
 
 -- Before the first round each image reads as the first world.
-pub kept_begun : (size : ℕ) (v : View) (w : World) → IsSound v → ((c : Image) → IsImage v c → ReadsAs size w c) → AreKept size v v.moment w []
-kept_begun size v w sound images = λ c left. images c (sound.only_now c left)
+pub kept_begun : (terms : Terms) (v : View) (w : World) → IsSound v → ((c : Image) → IsImage v c → ReadsAs terms w c) → AreKept terms v v.moment w []
+kept_begun terms v w sound images = λ c left. images c (sound.only_now c left)
 
 -- One round more: an image since an earlier moment is one from before the round, or it is one of the round's time.
-pub kept_more : (size : ℕ) (store store' : View) (from : ℕ) (first : Stage) (rounds : List Round) (round : Round)
-    → AreKept size store from first.world rounds → AreInTime from rounds store.moment
-    → LeavesOnly store store' (λ c. ReadsAs size (stage_after first rounds).world c ⊎ ReadsAs size round.after.world c) → round.moment ≡ store'.moment
-    → ((c : Image) → store'.left_since store'.moment c → ReadsAs size round.after.world c) → AreKept size store' from first.world (rounds ++ round ∷ [])
-kept_more size store store' from first [] round kept in_time left same since = (
+pub kept_more : (terms : Terms) (store store' : View) (from : ℕ) (first : Stage) (rounds : List Round) (round : Round)
+    → AreKept terms store from first.world rounds → AreInTime from rounds store.moment
+    → LeavesOnly store store' (λ c. ReadsAs terms (stage_after first rounds).world c ⊎ ReadsAs terms round.after.world c) → round.moment ≡ store'.moment
+    → ((c : Image) → store'.left_since store'.moment c → ReadsAs terms round.after.world c) → AreKept terms store' from first.world (rounds ++ round ∷ [])
+kept_more terms store store' from first [] round kept in_time left same since = (
   λ c h. ⊎_elim (λ was. inr (inl (kept c was))) (λ p. inr p.0) (left.before from c in_time h),
   λ c h. since c (subst (λ (m : ℕ). store'.left_since m c) same h),
 )
-kept_more size store store' from first (x ∷ rounds) round kept in_time left same since =
+kept_more terms store store' from first (x ∷ rounds) round kept in_time left same since =
     let le : x.moment ≤ store.moment = in_time_to x.moment store.moment rounds in_time.1 in (
       λ c h. ⊎_elim (λ was. ⊎_elim (λ later. inl (left.keeps x.moment c le later)) (λ reads. inr reads) (kept.0 c was)) (λ p. inl (p.1 x.moment le))
           (left.before from c (omega (arith, in_time.0, le)) h),
-      kept_more size store store' x.moment x.after rounds round kept.1 in_time.1 left same since,
+      kept_more terms store store' x.moment x.after rounds round kept.1 in_time.1 left same since,
     )
 
 -- One round more: what the journal read when earlier rounds began stood in the store, and stays an image since then.

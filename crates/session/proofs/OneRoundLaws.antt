@@ -5,6 +5,7 @@ use Rattle.outside.specs.declared.folder.NamedText.{NamedText}
 use Rattle.bank.specs.Content.{Image}
 use Rattle.bank.specs.View.{View, IsSound}
 use Rattle.site_events.specs.declared.reply.Reply.{Reply}
+use Rattle.site_history.specs.Terms.{Terms}
 use Rattle.site_history.specs.Worlds.{World}
 use Rattle.site_history.specs.Images.{ReadsAs}
 use Rattle.engine.specs.declared.kept.Engine.{Engine}
@@ -17,23 +18,23 @@ use Rattle.session.specs.declared.kept.Mark.{Mark}
 use Rattle.session.specs.declared.kept.Ending.{Ending}
 
 -- Since a moment a crash left only images that read as the world for which the engine stands.
-images_since : {B P : Type 0} (told : Bool) (view : B → View) (engine : Engine B P) (size : ℕ) (w : World) → (IsTrue told → IsSound (view engine.bank)) → engine.journal.size ≡ size → StandsFor told view engine w
-    → IsTrue told → (c : Image) → (view engine.bank).left_since (view engine.bank).moment c → ReadsAs size w c
-images_since told view engine size w sound same stands t c left = subst (λ (n : ℕ). ReadsAs n w c) same (stands.images t c ((sound t).only_now c left))
+images_since : (terms : Terms) → {B P : Type 0} (told : Bool) (view : B → View) (engine : Engine B P) (w : World) → (IsTrue told → IsSound (view engine.bank)) → StandsFor terms told view engine w
+    → IsTrue told → (c : Image) → (view engine.bank).left_since (view engine.bank).moment c → ReadsAs terms w c
+images_since terms told view engine w sound stands t c left = (stands.images t c ((sound t).only_now c left))
 
 -- A round from the stage at which an engine stands, by its answer and its mark.
-pub made : {B P : Type 0} (told : Bool) (view : B → View) (engine engine' : Engine B P) (folder : Option (List NamedText)) (stage : Stage) (request : Request) (reply : Reply) (now' : ℕ)
+pub made : (terms : Terms) → {B P : Type 0} (told : Bool) (view : B → View) (engine engine' : Engine B P) (folder : Option (List NamedText)) (stage : Stage) (request : Request) (reply : Reply) (now' : ℕ)
     (written written' : Option (List ℕ)) (faults faults' folder_faults folder_faults' bank_faults bank_faults' journal_faults journal_faults' last_fault : ℕ) (marks mid marks' : List Mark) (status status' : ℕ) (end : Option Ending) (mark : Mark)
-    → (IsTrue told → IsSound (view engine.bank)) → (IsTrue told → IsSound (view engine'.bank)) → engine'.journal.size ≡ engine.journal.size
-    → (stage' : Stage) × IsRoundOf engine.journal.size told folder stage request last_fault ((view engine.bank).content 0) reply stage' × Moves told view engine engine' stage.world stage'.world × (now' ≡ stage'.now)
+    → (IsTrue told → IsSound (view engine.bank)) → (IsTrue told → IsSound (view engine'.bank))
+    → (stage' : Stage) × IsRoundOf terms told folder stage request last_fault ((view engine.bank).content 0) reply stage' × Moves terms told view engine engine' stage.world stage'.world × (now' ≡ stage'.now)
     × AreCounted folder_faults (folder_faults_of reply) folder_faults'
     → status' ≡ first_of status (cause_of reply) → AreCounted bank_faults (faults_of reply) bank_faults'
     → AreCounted journal_faults (journal_faults_of reply last_fault) journal_faults'
-    → mid ≡ marks → mark.answered ≡ length mid + 1 → ((w : World) → StandsFor told view engine' w → mark.steps ≡ length w.history) → (IsTrue told → mark.moment ≡ (view engine'.bank).moment)
+    → mid ≡ marks → mark.answered ≡ length mid + 1 → ((w : World) → StandsFor terms told view engine' w → mark.steps ≡ length w.history) → (IsTrue told → mark.moment ≡ (view engine'.bank).moment)
     → Tells written written' faults faults' mid marks' end reply mark
-    → (round : Round) × IsRound (StandsFor told view engine') told engine.journal.size folder (view engine.bank) (view engine'.bank) stage request
+    → (round : Round) × IsRound terms (StandsFor terms told view engine') told folder (view engine.bank) (view engine'.bank) stage request
     written written' faults faults' folder_faults folder_faults' bank_faults bank_faults' journal_faults journal_faults' last_fault marks marks' status status' end round × (now' ≡ round.after.now)
-made told view engine engine' folder stage request reply now' written written' faults faults' folder_faults folder_faults' bank_faults bank_faults' journal_faults journal_faults' last_fault marks mid marks' status status' end mark sound_before sound same_size turn cause counted journal_counted same answered steps at_moment tells = (
+made terms told view engine engine' folder stage request reply now' written written' faults faults' folder_faults folder_faults' bank_faults bank_faults' journal_faults journal_faults' last_fault marks mid marks' status status' end mark sound_before sound turn cause counted journal_counted same answered steps at_moment tells = (
   record { asked = request; reply = reply; after = turn.0; area = last_fault; journal = (view engine.bank).content 0; moment = mark.moment },
   record {
     same = refl;
@@ -47,7 +48,7 @@ made told view engine engine' folder stage request reply now' written written' f
     folder_counted = turn.4;
     moment = at_moment;
     meanwhile = turn.2.moments;
-    since = images_since told view engine' engine.journal.size turn.0.world sound same_size turn.2.stands;
+    since = images_since terms told view engine' turn.0.world sound turn.2.stands;
     tells_answer = subst (λ (ms : List Mark). Tells written written' faults faults' ms marks' end reply (mark_of (length ms + 1) (record { asked = request; reply = reply; after = turn.0; area = last_fault; journal = (view engine.bank).content 0; moment = mark.moment }))) same
         (subst (λ (m : Mark). Tells written written' faults faults' mid marks' end reply m) same_mark tells);
   },

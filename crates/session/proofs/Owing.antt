@@ -10,6 +10,7 @@ use Rattle.site_events.specs.declared.event.Event.{Event}
 use Rattle.site_events.specs.declared.event.Event.TheVariants.{Configure as ConfigureEvent}
 use Rattle.site_events.specs.declared.reply.Reply.{Reply}
 use Rattle.site_events.specs.declared.reply.Reply.TheVariants.{BankFault, NoMemory}
+use Rattle.site_history.specs.Terms.{Terms}
 use Rattle.site_history.specs.Steps.{HistoryStep}
 use Rattle.site_history.specs.Answers.{Answer}
 use Rattle.site_history.specs.Worlds.{World, Turn, TurnBy, Owes, Stays, answer_in, moment_of}
@@ -30,42 +31,42 @@ fault_elsewhere : (in_journal told : Bool) (answer : Answer) (history : List His
 fault_elsewhere true told answer history moment w' turn none = absurd (omega (arith, none))
 fault_elsewhere false told answer history moment w' turn none = (ap (λ (x : World). x.due) turn, ap (λ (x : World). x.owed) turn)
 
-turn_rests : (size : ℕ) (told : Bool) (history : List HistoryStep) (event : Event) (moment area : ℕ) (reply : Reply) (w' : World) → Turn size told history event moment area reply w'
+turn_rests : (terms : Terms) (told : Bool) (history : List HistoryStep) (event : Event) (moment area : ℕ) (reply : Reply) (w' : World) → Turn terms told history event moment area reply w'
     → journal_faults_of reply area ≡ 0 → Rests w'
-turn_rests size told history event moment area BankFault w' turn none = fault_elsewhere (area == 0) told (answer_in size history moment event) history moment w' turn none
-turn_rests size told history event moment area NoMemory w' turn none = (ap (λ (x : World). x.due) turn, ap (λ (x : World). x.owed) turn)
-turn_rests size told history event moment area _ w' turn none = (ap (λ (x : World). x.due) turn.1, ap (λ (x : World). x.owed) turn.1)
+turn_rests terms told history event moment area BankFault w' turn none = fault_elsewhere (area == 0) told (answer_in terms history moment event) history moment w' turn none
+turn_rests terms told history event moment area NoMemory w' turn none = (ap (λ (x : World). x.due) turn, ap (λ (x : World). x.owed) turn)
+turn_rests terms told history event moment area _ w' turn none = (ap (λ (x : World). x.due) turn.1, ap (λ (x : World). x.owed) turn.1)
 
-event_rests : (size : ℕ) (told : Bool) (stage : Stage) (event : Event) (area : ℕ) (journal : Content) (reply : Reply) (stage' : Stage) → Rests stage.world
-    → IsEvent size told stage event area journal reply stage' → journal_faults_of reply area ≡ 0 → Rests stage'.world
-event_rests size told stage event area journal reply stage' rest turn none =
+event_rests : (terms : Terms) (told : Bool) (stage : Stage) (event : Event) (area : ℕ) (journal : Content) (reply : Reply) (stage' : Stage) → Rests stage.world
+    → IsEvent terms told stage event area journal reply stage' → journal_faults_of reply area ≡ 0 → Rests stage'.world
+event_rests terms told stage event area journal reply stage' rest turn none =
     rests_alike turn.0 stage'.world (ap (λ (s : Stage). s.world) turn.2)
-    (turn_rests size told stage.world.history event (moment_of stage.world.clock stage.now) area reply turn.0 (turn_at_rest size told stage.world event stage.now area journal reply turn.0 rest.0 turn.1) none)
+    (turn_rests terms told stage.world.history event (moment_of stage.world.clock stage.now) area reply turn.0 (turn_at_rest terms told stage.world event stage.now area journal reply turn.0 rest.0 turn.1) none)
 
 stage_rests : (stage stage' : Stage) → stage' ≡ stage → Rests stage.world → Rests stage'.world
 stage_rests stage stage' e rest = rests_alike stage.world stage'.world (ap (λ (s : Stage). s.world) e) rest
 
-asked_rests : (size : ℕ) (told : Bool) (folder : Option (List NamedText)) (stage : Stage) (asked : Asked) (area : ℕ) (journal : Content) (reply : Reply) (stage' : Stage) → Rests stage.world
-    → IsRoundOf size told folder stage (Ok asked) area journal reply stage' → journal_faults_of reply area ≡ 0 → Rests stage'.world
-asked_rests size told folder stage (One event) area journal reply stage' rest (inl lost) none = stage_rests stage stage' lost.1 rest
-asked_rests size told folder stage (One event) area journal reply stage' rest (inr turn) none = event_rests size told stage event area journal reply stage' rest turn none
-asked_rests size told folder stage (AskedAt moment) area journal reply stage' rest (inl lost) none = stage_rests stage stage' lost.1 rest
-asked_rests size told folder stage (AskedAt moment) area journal reply stage' rest (inr moved) none = rests_alike stage.world stage'.world (ap (λ (s : Stage). s.world) moved.1) rest
-asked_rests size told folder stage Configure area journal reply stage' rest (inl unread) none = stage_rests stage stage' unread.1 rest
-asked_rests size told folder stage Configure area journal reply stage' rest (inr (texts, read, turn)) none = event_rests size told stage (ConfigureEvent texts) area journal reply stage' rest turn none
-asked_rests size told folder stage _ area journal reply stage' rest answers none = stage_rests stage stage' answers.1 rest
+asked_rests : (terms : Terms) (told : Bool) (folder : Option (List NamedText)) (stage : Stage) (asked : Asked) (area : ℕ) (journal : Content) (reply : Reply) (stage' : Stage) → Rests stage.world
+    → IsRoundOf terms told folder stage (Ok asked) area journal reply stage' → journal_faults_of reply area ≡ 0 → Rests stage'.world
+asked_rests terms told folder stage (One event) area journal reply stage' rest (inl lost) none = stage_rests stage stage' lost.1 rest
+asked_rests terms told folder stage (One event) area journal reply stage' rest (inr turn) none = event_rests terms told stage event area journal reply stage' rest turn none
+asked_rests terms told folder stage (AskedAt moment) area journal reply stage' rest (inl lost) none = stage_rests stage stage' lost.1 rest
+asked_rests terms told folder stage (AskedAt moment) area journal reply stage' rest (inr moved) none = rests_alike stage.world stage'.world (ap (λ (s : Stage). s.world) moved.1) rest
+asked_rests terms told folder stage Configure area journal reply stage' rest (inl unread) none = stage_rests stage stage' unread.1 rest
+asked_rests terms told folder stage Configure area journal reply stage' rest (inr (texts, read, turn)) none = event_rests terms told stage (ConfigureEvent texts) area journal reply stage' rest turn none
+asked_rests terms told folder stage _ area journal reply stage' rest answers none = stage_rests stage stage' answers.1 rest
 
-round_rests : (size : ℕ) (told : Bool) (folder : Option (List NamedText)) (stage : Stage) (request : Request) (area : ℕ) (journal : Content) (reply : Reply) (stage' : Stage) → Rests stage.world
-    → IsRoundOf size told folder stage request area journal reply stage' → journal_faults_of reply area ≡ 0 → Rests stage'.world
-round_rests size told folder stage (Err refusal) area journal reply stage' rest answers none = stage_rests stage stage' answers.1 rest
-round_rests size told folder stage (Ok asked) area journal reply stage' rest round none = asked_rests size told folder stage asked area journal reply stage' rest round none
+round_rests : (terms : Terms) (told : Bool) (folder : Option (List NamedText)) (stage : Stage) (request : Request) (area : ℕ) (journal : Content) (reply : Reply) (stage' : Stage) → Rests stage.world
+    → IsRoundOf terms told folder stage request area journal reply stage' → journal_faults_of reply area ≡ 0 → Rests stage'.world
+round_rests terms told folder stage (Err refusal) area journal reply stage' rest answers none = stage_rests stage stage' answers.1 rest
+round_rests terms told folder stage (Ok asked) area journal reply stage' rest round none = asked_rests terms told folder stage asked area journal reply stage' rest round none
 
-run_rests : (size : ℕ) (told : Bool) (folder : Option (List NamedText)) (stage : Stage) (rs : List Round) → Rests stage.world → IsRun size told folder stage rs → journal_faults_in rs ≡ 0
+run_rests : (terms : Terms) (told : Bool) (folder : Option (List NamedText)) (stage : Stage) (rs : List Round) → Rests stage.world → IsRun terms told folder stage rs → journal_faults_in rs ≡ 0
     → Rests (stage_after stage rs).world
-run_rests size told folder stage [] rest run none = rest
-run_rests size told folder stage (x ∷ rs) rest run none =
-    run_rests size told folder x.after rs
-    (round_rests size told folder stage x.asked x.area x.journal x.reply x.after rest run.0 (omega (arith, none))) run.1 (omega (arith, none))
+run_rests terms told folder stage [] rest run none = rest
+run_rests terms told folder stage (x ∷ rs) rest run none =
+    run_rests terms told folder x.after rs
+    (round_rests terms told folder stage x.asked x.area x.journal x.reply x.after rest run.0 (omega (arith, none))) run.1 (omega (arith, none))
 
 -- No fault was told where the count did not rise.
 none_told : (before n now : ℕ) → AreCounted before n now → (Rose before now → ⊥) → n ≡ 0
@@ -73,6 +74,6 @@ none_told before zero now counted never = refl
 none_told before (suc n) now counted never = absurd (never (omega (arith, counted)))
 
 -- A step is owed only after a fault of the journal.
-pub owed_by_fault : (size : ℕ) (told : Bool) (folder : Option (List NamedText)) (stage : Stage) (rs : List Round) (before now : ℕ) → stage.world.due ≡ false → stage.world.owed ≡ None → IsRun size told folder stage rs
+pub owed_by_fault : (terms : Terms) (told : Bool) (folder : Option (List NamedText)) (stage : Stage) (rs : List Round) (before now : ℕ) → stage.world.due ≡ false → stage.world.owed ≡ None → IsRun terms told folder stage rs
     → AreCounted before (journal_faults_in rs) now → (Rose before now → ⊥) → (stage_after stage rs).world.owed ≡ None
-owed_by_fault size told folder stage rs before now rest none run counted never = (run_rests size told folder stage rs (rest, none) run (none_told before (journal_faults_in rs) now counted never)).1
+owed_by_fault terms told folder stage rs before now rest none run counted never = (run_rests terms told folder stage rs (rest, none) run (none_told before (journal_faults_in rs) now counted never)).1

@@ -17,6 +17,7 @@ use Rattle.site_events.specs.declared.reply.LineRefusal.TheVariants.{NotACommand
 use Rattle.site_events.specs.declared.reply.Reply.{Reply}
 use Rattle.site_events.specs.declared.reply.Reply.TheVariants.{Line, At, BankFault, FolderFault, NoMemory}
 use Rattle.configuration.specs.FolderTexts.{AreRead}
+use Rattle.site_history.specs.Terms.{Terms}
 use Rattle.site_history.specs.Worlds.{World, EventTurn}
 use Rattle.site_history.specs.Images.{ReadsAs}
 use Rattle.engine.specs.declared.kept.Engine.{Engine}
@@ -41,12 +42,12 @@ counted_journal BankFault area before now fault later = by_area (area == 0) refl
 counted_journal _ area before now fault later = omega (arith, later)
 
 -- Want of memory may be answered to any request.
-memory_lost : (size : ℕ) (told : Bool) (folder : Option (List NamedText)) (stage : Stage) (request : Request) (area : ℕ) (journal : Content) → IsRoundOf size told folder stage request area journal NoMemory stage
-memory_lost size told folder stage (Err refusal) area journal = (inr refl, refl)
-memory_lost size told folder stage (Ok (One event)) area journal = inl (refl, refl)
-memory_lost size told folder stage (Ok (AskedAt moment)) area journal = inl (refl, refl)
-memory_lost size told folder stage (Ok Configure) area journal = inl (inr refl, refl)
-memory_lost size told folder stage (Ok _) area journal = (inr refl, refl)
+memory_lost : (terms : Terms) (told : Bool) (folder : Option (List NamedText)) (stage : Stage) (request : Request) (area : ℕ) (journal : Content) → IsRoundOf terms told folder stage request area journal NoMemory stage
+memory_lost terms told folder stage (Err refusal) area journal = (inr refl, refl)
+memory_lost terms told folder stage (Ok (One event)) area journal = inl (refl, refl)
+memory_lost terms told folder stage (Ok (AskedAt moment)) area journal = inl (refl, refl)
+memory_lost terms told folder stage (Ok Configure) area journal = inl (inr refl, refl)
+memory_lost terms told folder stage (Ok _) area journal = (inr refl, refl)
 
 -- What was read, where it is the same.
 pub read_alike : (asked same : Result Asked LineRefusal) (request : Request) → asked ≡ same → IsReadAs asked request → IsReadAs same request
@@ -58,23 +59,23 @@ request_read asked request (inl e) = e
 request_read asked request (inr e) = absurd (cc)
 
 -- What is asked otherwise than by an event, a moment or `configure` is no command.
-no_command : (size : ℕ) (told : Bool) (folder : Option (List NamedText)) (stage : Stage) (asked : Asked) (area : ℕ) (journal : Content) → ((event : Event) → asked ≡ One event → ⊥)
-    → ((moment : ℕ) → asked ≡ AskedAt moment → ⊥) → (asked ≡ Configure → ⊥) → IsRoundOf size told folder stage (Ok asked) area journal (Line NotACommand) stage
-no_command size told folder stage (One event) area journal not_one not_at not_configure = absurd (not_one event refl)
-no_command size told folder stage (AskedAt moment) area journal not_one not_at not_configure = absurd (not_at moment refl)
-no_command size told folder stage Configure area journal not_one not_at not_configure = absurd (not_configure refl)
-no_command size told folder stage _ area journal not_one not_at not_configure = (inl refl, refl)
+no_command : (terms : Terms) (told : Bool) (folder : Option (List NamedText)) (stage : Stage) (asked : Asked) (area : ℕ) (journal : Content) → ((event : Event) → asked ≡ One event → ⊥)
+    → ((moment : ℕ) → asked ≡ AskedAt moment → ⊥) → (asked ≡ Configure → ⊥) → IsRoundOf terms told folder stage (Ok asked) area journal (Line NotACommand) stage
+no_command terms told folder stage (One event) area journal not_one not_at not_configure = absurd (not_one event refl)
+no_command terms told folder stage (AskedAt moment) area journal not_one not_at not_configure = absurd (not_at moment refl)
+no_command terms told folder stage Configure area journal not_one not_at not_configure = absurd (not_configure refl)
+no_command terms told folder stage _ area journal not_one not_at not_configure = (inl refl, refl)
 
 -- A refused line is answered as it is defined.
-refused_round : (size : ℕ) (told : Bool) (folder : Option (List NamedText)) (stage : Stage) (refusal : LineRefusal) (request : Request) (area : ℕ) (journal : Content) → IsReadAs (Err refusal) request
-    → IsRoundOf size told folder stage request area journal (reply_to refusal) stage
-refused_round size told folder stage WantOfMemory request area journal read = memory_lost size told folder stage request area journal
-refused_round size told folder stage NotACommand request area journal (inl e) = subst (λ (r : Request). IsRoundOf size told folder stage r area journal (Line NotACommand) stage) e (inl refl, refl)
-refused_round size told folder stage NotACommand request area journal (inr e) = absurd (cc)
-refused_round size told folder stage (BadWord number) request area journal (inl e) = subst (λ (r : Request). IsRoundOf size told folder stage r area journal (Line (BadWord number)) stage) e (inl refl, refl)
-refused_round size told folder stage (BadWord number) request area journal (inr e) = absurd (cc)
-refused_round size told folder stage LineTooLong request area journal (inl e) = subst (λ (r : Request). IsRoundOf size told folder stage r area journal (Line LineTooLong) stage) e (inl refl, refl)
-refused_round size told folder stage LineTooLong request area journal (inr e) = absurd (cc)
+refused_round : (terms : Terms) (told : Bool) (folder : Option (List NamedText)) (stage : Stage) (refusal : LineRefusal) (request : Request) (area : ℕ) (journal : Content) → IsReadAs (Err refusal) request
+    → IsRoundOf terms told folder stage request area journal (reply_to refusal) stage
+refused_round terms told folder stage WantOfMemory request area journal read = memory_lost terms told folder stage request area journal
+refused_round terms told folder stage NotACommand request area journal (inl e) = subst (λ (r : Request). IsRoundOf terms told folder stage r area journal (Line NotACommand) stage) e (inl refl, refl)
+refused_round terms told folder stage NotACommand request area journal (inr e) = absurd (cc)
+refused_round terms told folder stage (BadWord number) request area journal (inl e) = subst (λ (r : Request). IsRoundOf terms told folder stage r area journal (Line (BadWord number)) stage) e (inl refl, refl)
+refused_round terms told folder stage (BadWord number) request area journal (inr e) = absurd (cc)
+refused_round terms told folder stage LineTooLong request area journal (inl e) = subst (λ (r : Request). IsRoundOf terms told folder stage r area journal (Line LineTooLong) stage) e (inl refl, refl)
+refused_round terms told folder stage LineTooLong request area journal (inr e) = absurd (cc)
 
 -- It tells no fault of the folder.
 refused_folder : (refusal : LineRefusal) (before after : ℕ) → before ≤ after → AreCounted before (folder_faults_of (reply_to refusal)) after
@@ -85,55 +86,55 @@ refused_folder WantOfMemory before after later = omega (arith, later)
 
 -- `faults` and `faults'` are the folder's counts before and after.
 module _ {B P : Type 0} (told : Bool) (view : B → View) (engine : Engine B P) (folder : Option (List NamedText)) (faults faults' : ℕ) (stage : Stage) (now : ℕ)
-    (stands : StandsFor told view engine stage.world) (same_now : stage.now ≡ now) (later : faults ≤ faults') where
+    (stands : StandsFor terms told view engine stage.world) (same_now : stage.now ≡ now) (later : faults ≤ faults') where
   -- The round that a reply makes, where the engine stands after it, the moment of the events then, and what the folder counted.
-  abbrev pub Responds : ℕ → Request → ℕ → Content → Reply → Engine B P → ℕ → Type 0
-  Responds size request area journal reply engine' now' = (stage' : Stage) × IsRoundOf size told folder stage request area journal reply stage' × Moves told view engine engine' stage.world stage'.world
+  abbrev pub Responds : Terms → Request → ℕ → Content → Reply → Engine B P → ℕ → Type 0
+  Responds terms request area journal reply engine' now' = (stage' : Stage) × IsRoundOf terms told folder stage request area journal reply stage' × Moves terms told view engine engine' stage.world stage'.world
       × (now' ≡ stage'.now) × AreCounted faults (folder_faults_of reply) faults'
 
   -- The engine was not asked.
-  still : (IsTrue told → IsSound (view engine.bank)) → (w : World) → w ≡ stage.world → Moves told view engine engine stage.world w
-  still sound w same = subst (λ (x : World). Moves told view engine engine stage.world x) (sym same)
-      (record { stands = stands; moments = λ t. started (view engine.bank) (λ c. ReadsAs engine.journal.size stage.world c ⊎ ReadsAs engine.journal.size stage.world c) (sound t) (λ c image. inl (stands.images t c image)) })
+  still : (IsTrue told → IsSound (view engine.bank)) → (w : World) → w ≡ stage.world → Moves terms told view engine engine stage.world w
+  still sound w same = subst (λ (x : World). Moves terms told view engine engine stage.world x) (sym same)
+      (record { stands = stands; moments = λ t. started (view engine.bank) (λ c. ReadsAs terms stage.world c ⊎ ReadsAs terms stage.world c) (sound t) (λ c image. inl (stands.images t c image)) })
 
   -- An event was answered by the engine.
-  pub event_response : (size area : ℕ) (journal : Content) (event : Event) (request : Request) (reply : Reply) (engine' : Engine B P) → IsReadAs (Ok (One event)) request
-      → (w' : World) × EventTurn size told stage.world event now area journal reply w' × Moves told view engine engine' stage.world w'
-      → Responds size request area journal reply engine' now
-  event_response size area journal event request reply engine' read turn = (
+  pub event_response : (terms area : ℕ) (journal : Content) (event : Event) (request : Request) (reply : Reply) (engine' : Engine B P) → IsReadAs (Ok (One event)) request
+      → (w' : World) × EventTurn terms told stage.world event now area journal reply w' × Moves terms told view engine engine' stage.world w'
+      → Responds terms request area journal reply engine' now
+  event_response terms area journal event request reply engine' read turn = (
     record { world = turn.0; now = stage.now },
-    subst (λ (r : Request). IsRoundOf size told folder stage r area journal reply (record { world = turn.0; now = stage.now })) (request_read (One event) request read)
-        (inr (turn.0, subst (λ (n : ℕ). EventTurn size told stage.world event n area journal reply turn.0) (sym same_now) turn.1, refl)),
+    subst (λ (r : Request). IsRoundOf terms told folder stage r area journal reply (record { world = turn.0; now = stage.now })) (request_read (One event) request read)
+        (inr (turn.0, subst (λ (n : ℕ). EventTurn terms told stage.world event n area journal reply turn.0) (sym same_now) turn.1, refl)),
     turn.2,
     sym same_now,
-    event_folder size told stage.world event now area journal reply turn.0 faults faults' turn.1 later,
+    event_folder terms told stage.world event now area journal reply turn.0 faults faults' turn.1 later,
   )
 
   -- So was the event of the texts that the folder gave.
-  pub configured_response : (size area : ℕ) (journal : Content) (texts : SiteTexts) (reply : Reply) (engine' : Engine B P) → AreRead folder texts
-      → (w' : World) × EventTurn size told stage.world (ConfigureEvent texts) now area journal reply w' × Moves told view engine engine' stage.world w'
-      → Responds size (Ok Configure) area journal reply engine' now
-  configured_response size area journal texts reply engine' read turn = (
+  pub configured_response : (terms area : ℕ) (journal : Content) (texts : SiteTexts) (reply : Reply) (engine' : Engine B P) → AreRead folder texts
+      → (w' : World) × EventTurn terms told stage.world (ConfigureEvent texts) now area journal reply w' × Moves terms told view engine engine' stage.world w'
+      → Responds terms (Ok Configure) area journal reply engine' now
+  configured_response terms area journal texts reply engine' read turn = (
     record { world = turn.0; now = stage.now },
-    inr (texts, read, (turn.0, subst (λ (n : ℕ). EventTurn size told stage.world (ConfigureEvent texts) n area journal reply turn.0) (sym same_now) turn.1, refl)),
+    inr (texts, read, (turn.0, subst (λ (n : ℕ). EventTurn terms told stage.world (ConfigureEvent texts) n area journal reply turn.0) (sym same_now) turn.1, refl)),
     turn.2,
     sym same_now,
-    event_folder size told stage.world (ConfigureEvent texts) now area journal reply turn.0 faults faults' turn.1 later,
+    event_folder terms told stage.world (ConfigureEvent texts) now area journal reply turn.0 faults faults' turn.1 later,
   )
 
   -- `configure` was asked, which was answered so.
-  pub configure_response : (size area : ℕ) (journal : Content) (request : Request) (reply : Reply) (engine' : Engine B P) (now' : ℕ) → IsReadAs (Ok Configure) request
-      → Responds size (Ok Configure) area journal reply engine' now' → Responds size request area journal reply engine' now'
-  configure_response size area journal request reply engine' now' read responds =
-      subst (λ (r : Request). Responds size r area journal reply engine' now') (request_read Configure request read) responds
+  pub configure_response : (terms area : ℕ) (journal : Content) (request : Request) (reply : Reply) (engine' : Engine B P) (now' : ℕ) → IsReadAs (Ok Configure) request
+      → Responds terms (Ok Configure) area journal reply engine' now' → Responds terms request area journal reply engine' now'
+  configure_response terms area journal request reply engine' now' read responds =
+      subst (λ (r : Request). Responds terms r area journal reply engine' now') (request_read Configure request read) responds
 
   module _ (sound : IsTrue told → IsSound (view engine.bank)) where
     -- The moment of the events moved on.
-    pub at_response : (size area : ℕ) (journal : Content) (moment moved : ℕ) (request : Request) → IsReadAs (Ok (AskedAt moment)) request → moved ≡ max moment now → Responds size request area journal (At moved) engine moved
-    at_response size area journal moment moved request read is =
+    pub at_response : (terms area : ℕ) (journal : Content) (moment moved : ℕ) (request : Request) → IsReadAs (Ok (AskedAt moment)) request → moved ≡ max moment now → Responds terms request area journal (At moved) engine moved
+    at_response terms area journal moment moved request read is =
         let moved_on : moved ≡ max moment stage.now = is ∙ ap (λ (n : ℕ). max moment n) (sym same_now) in (
           record { world = stage.world; now = max moment stage.now },
-          subst (λ (r : Request). IsRoundOf size told folder stage r area journal (At moved) (record { world = stage.world; now = max moment stage.now })) (request_read (AskedAt moment) request read)
+          subst (λ (r : Request). IsRoundOf terms told folder stage r area journal (At moved) (record { world = stage.world; now = max moment stage.now })) (request_read (AskedAt moment) request read)
               (inr (ap (λ (n : ℕ). At n) moved_on, refl)),
           still sound stage.world refl,
           moved_on,
@@ -141,26 +142,26 @@ module _ {B P : Type 0} (told : Bool) (view : B → View) (engine : Engine B P) 
         )
 
     -- No text could be read of the folder.
-    pub unread_response : (size area : ℕ) (journal : Content) (reply : Reply) → (reply ≡ FolderFault) ⊎ (reply ≡ NoMemory) → AreCounted faults (folder_faults_of reply) faults' → Responds size (Ok Configure) area journal reply engine now
-    unread_response size area journal reply unread counted = (stage, inl (unread, refl), still sound stage.world refl, sym same_now, counted)
+    pub unread_response : (terms area : ℕ) (journal : Content) (reply : Reply) → (reply ≡ FolderFault) ⊎ (reply ≡ NoMemory) → AreCounted faults (folder_faults_of reply) faults' → Responds terms (Ok Configure) area journal reply engine now
+    unread_response terms area journal reply unread counted = (stage, inl (unread, refl), still sound stage.world refl, sym same_now, counted)
 
     -- What was asked is no command.
-    pub other_response : (size area : ℕ) (journal : Content) (asked : Asked) (request : Request) → ((event : Event) → asked ≡ One event → ⊥) → ((moment : ℕ) → asked ≡ AskedAt moment → ⊥) → (asked ≡ Configure → ⊥)
-        → IsReadAs (Ok asked) request → Responds size request area journal (Line NotACommand) engine now
-    other_response size area journal asked request not_one not_at not_configure read = (
+    pub other_response : (terms area : ℕ) (journal : Content) (asked : Asked) (request : Request) → ((event : Event) → asked ≡ One event → ⊥) → ((moment : ℕ) → asked ≡ AskedAt moment → ⊥) → (asked ≡ Configure → ⊥)
+        → IsReadAs (Ok asked) request → Responds terms request area journal (Line NotACommand) engine now
+    other_response terms area journal asked request not_one not_at not_configure read = (
       stage,
-      subst (λ (r : Request). IsRoundOf size told folder stage r area journal (Line NotACommand) stage) (request_read asked request read) (no_command size told folder stage asked area journal not_one not_at not_configure),
+      subst (λ (r : Request). IsRoundOf terms told folder stage r area journal (Line NotACommand) stage) (request_read asked request read) (no_command terms told folder stage asked area journal not_one not_at not_configure),
       still sound stage.world refl,
       sym same_now,
       omega (arith, later),
     )
 
     -- The line was refused, or no memory was found for it.
-    pub refused_response : (size area : ℕ) (journal : Content) (refusal : LineRefusal) (request : Request) (reply : Reply) → IsReadAs (Err refusal) request → reply ≡ reply_to refusal
-        → Responds size request area journal reply engine now
-    refused_response size area journal refusal request reply read is = (
+    pub refused_response : (terms area : ℕ) (journal : Content) (refusal : LineRefusal) (request : Request) (reply : Reply) → IsReadAs (Err refusal) request → reply ≡ reply_to refusal
+        → Responds terms request area journal reply engine now
+    refused_response terms area journal refusal request reply read is = (
       stage,
-      subst (λ (r : Reply). IsRoundOf size told folder stage request area journal r stage) (sym is) (refused_round size told folder stage refusal request area journal read),
+      subst (λ (r : Reply). IsRoundOf terms told folder stage request area journal r stage) (sym is) (refused_round terms told folder stage refusal request area journal read),
       still sound stage.world refl,
       sym same_now,
       subst (λ (r : Reply). AreCounted faults (folder_faults_of r) faults') (sym is) (refused_folder refusal faults faults' later),

@@ -8,12 +8,13 @@ use Rattle.desk.specs.Texts.{text_of}
 use Rattle.session.specs.Asking.{Request}
 use Rattle.session.specs.Rounds.{Stage, Round, IsRoundOf, GoOn, ends_run, IsRun, stage_after, asked, output, AreInTime, mark_of, marks_from, cause_of, first_of, status_from, faults_of, faults_in, journal_faults_of, journal_faults_in, IsLastArea, folder_faults_of, folder_faults_in}
 use Rattle.session.specs.declared.kept.Mark.{Mark}
+use Rattle.site_history.specs.Terms.{Terms}
 
 -- A run goes on by a round from where it stands.
-pub run_more : (size : ℕ) (told : Bool) (folder : Option (List NamedText)) (stage : Stage) (rs : List Round) (r : Round) → IsRun size told folder stage rs
-    → IsRoundOf size told folder (stage_after stage rs) r.asked r.area r.journal r.reply r.after → IsRun size told folder stage (rs ++ r ∷ [])
-run_more size told folder stage [] r run turn = (turn, tt)
-run_more size told folder stage (x ∷ rs) r run turn = (run.0, run_more size told folder x.after rs r run.1 turn)
+pub run_more : (terms : Terms) (told : Bool) (folder : Option (List NamedText)) (stage : Stage) (rs : List Round) (r : Round) → IsRun terms told folder stage rs
+    → IsRoundOf terms told folder (stage_after stage rs) r.asked r.area r.journal r.reply r.after → IsRun terms told folder stage (rs ++ r ∷ [])
+run_more terms told folder stage [] r run turn = (turn, tt)
+run_more terms told folder stage (x ∷ rs) r run turn = (run.0, run_more terms told folder x.after rs r run.1 turn)
 
 -- It stands then where the round left it.
 pub after_more : (stage : Stage) (rs : List Round) (r : Round) → stage_after stage (rs ++ r ∷ []) ≡ r.after

@@ -3,6 +3,7 @@ use Rattle.std.proofs.Common.{◌≡◌, inl, inr, ℕ, ◌<◌, ◌≤◌, List
 use Rattle.std.specs.Io.KnownBytes.{IsAtEnd}
 use Rattle.base.specs.Causes.{Rose}
 use Rattle.bank.specs.Content.{Content}
+use Rattle.site_history.specs.Terms.{Terms}
 use Rattle.site_history.specs.Journals.{IsBadJournal}
 use Rattle.session.specs.Session.{Outside}
 use Rattle.session.specs.Outcomes.{HasStatus, journal_bytes}
@@ -16,9 +17,9 @@ pub if_any : (a : Option (List ℕ)) (Q : List ℕ → Type 0) → ((xs : List �
 if_any None Q f = tt
 if_any (Some xs) Q f = f xs
 
-module _ (tells : Bool) (journal : Content) (budget : ℕ) (old new : Outside) (status : ℕ) where
+module _ (terms : Terms) (tells : Bool) (journal : Content) (budget : ℕ) (old new : Outside) (status : ℕ) where
   -- A fault of the store.
-  pub by_bank : status ≡ 3 → Rose old.bank_faults new.bank_faults → HasStatus tells journal budget old new status
+  pub by_bank : status ≡ 3 → Rose old.bank_faults new.bank_faults → HasStatus terms tells journal budget old new status
   by_bank is rose = record {
     bad_journal = λ h t. absurd (omega (arith, is, h));
     fault = λ h. inl rose;
@@ -31,7 +32,7 @@ module _ (tells : Bool) (journal : Content) (budget : ℕ) (old new : Outside) (
   }
 
   -- Want of memory.
-  pub by_memory : status ≡ 9 → HasStatus tells journal budget old new status
+  pub by_memory : status ≡ 9 → HasStatus terms tells journal budget old new status
   by_memory is = record {
     bad_journal = λ h t. absurd (omega (arith, is, h));
     fault = λ h. absurd (omega (arith, is, h));
@@ -44,7 +45,7 @@ module _ (tells : Bool) (journal : Content) (budget : ℕ) (old new : Outside) (
   }
 
   -- A bad journal.
-  pub by_bad_journal : status ≡ 2 → (IsTrue tells → (place : ℕ) × IsBadJournal journal_bytes journal place) → HasStatus tells journal budget old new status
+  pub by_bad_journal : status ≡ 2 → (IsTrue tells → (place : ℕ) × IsBadJournal terms journal place) → HasStatus terms tells journal budget old new status
   by_bad_journal is bad_there = record {
     bad_journal = λ h t. bad_there t;
     fault = λ h. absurd (omega (arith, is, h));
@@ -57,9 +58,9 @@ module _ (tells : Bool) (journal : Content) (budget : ℕ) (old new : Outside) (
   }
 
   -- All other causes come in a session, over a journal that is not bad.
-  module _ (not_bad : IsTrue tells → (place : ℕ) → IsBadJournal journal_bytes journal place → ⊥) where
+  module _ (not_bad : IsTrue tells → (place : ℕ) → IsBadJournal terms journal place → ⊥) where
     -- The input was read to its end.
-    pub by_end : status ≡ 0 → IsAtEnd new.left → IfSome old.left (λ bytes. length bytes ≤ budget) → HasStatus tells journal budget old new status
+    pub by_end : status ≡ 0 → IsAtEnd new.left → IfSome old.left (λ bytes. length bytes ≤ budget) → HasStatus terms tells journal budget old new status
     by_end is at_end within = record {
       bad_journal = λ h t. absurd (omega (arith, is, h));
       fault = λ h. absurd (omega (arith, is, h));
@@ -72,7 +73,7 @@ module _ (tells : Bool) (journal : Content) (budget : ℕ) (old new : Outside) (
     }
 
     -- A fault of the folder.
-    pub by_folder : status ≡ 3 → Rose old.folder_faults new.folder_faults → HasStatus tells journal budget old new status
+    pub by_folder : status ≡ 3 → Rose old.folder_faults new.folder_faults → HasStatus terms tells journal budget old new status
     by_folder is rose = record {
       bad_journal = λ h t. absurd (omega (arith, is, h));
       fault = λ h. inr rose;
@@ -85,7 +86,7 @@ module _ (tells : Bool) (journal : Content) (budget : ℕ) (old new : Outside) (
     }
 
     -- A fault of the source.
-    pub by_source : status ≡ 4 → Rose old.source_faults new.source_faults → HasStatus tells journal budget old new status
+    pub by_source : status ≡ 4 → Rose old.source_faults new.source_faults → HasStatus terms tells journal budget old new status
     by_source is rose = record {
       bad_journal = λ h t. absurd (omega (arith, is, h));
       fault = λ h. absurd (omega (arith, is, h));
@@ -98,7 +99,7 @@ module _ (tells : Bool) (journal : Content) (budget : ℕ) (old new : Outside) (
     }
 
     -- A fault of the sink.
-    pub by_sink : status ≡ 5 → Rose old.sink_faults new.sink_faults → HasStatus tells journal budget old new status
+    pub by_sink : status ≡ 5 → Rose old.sink_faults new.sink_faults → HasStatus terms tells journal budget old new status
     by_sink is rose = record {
       bad_journal = λ h t. absurd (omega (arith, is, h));
       fault = λ h. absurd (omega (arith, is, h));
@@ -111,7 +112,7 @@ module _ (tells : Bool) (journal : Content) (budget : ℕ) (old new : Outside) (
     }
 
     -- A byte beyond the budget.
-    pub by_budget : status ≡ 7 → IfSome old.left (λ bytes. budget < length bytes) → HasStatus tells journal budget old new status
+    pub by_budget : status ≡ 7 → IfSome old.left (λ bytes. budget < length bytes) → HasStatus terms tells journal budget old new status
     by_budget is beyond = record {
       bad_journal = λ h t. absurd (omega (arith, is, h));
       fault = λ h. absurd (omega (arith, is, h));

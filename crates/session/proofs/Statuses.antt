@@ -11,6 +11,7 @@ use Rattle.bank.specs.Content.{Content}
 use Rattle.bank.specs.View.{View}
 use Rattle.site_events.specs.declared.reply.Reply.{Reply}
 use Rattle.site_events.specs.declared.reply.Reply.TheVariants.{BadJournal}
+use Rattle.site_history.specs.Terms.{Terms}
 use Rattle.site_history.specs.Steps.{HistoryStep}
 use Rattle.site_history.specs.Worlds.{World}
 use Rattle.site_history.specs.Images.{IsSettled}
@@ -45,14 +46,14 @@ behind_calm x rs later n e (inr (inr m)) = inr (inr (ap (λ (k : ℕ). first_of 
 
 -- The status of a run that began with no reopening due: a fault of the store or of the folder, want of memory, or what ended
 -- the run.
-status_is : (size : ℕ) (told : Bool) (folder : Option (List NamedText)) (stage : Stage) (rs : List Round) (later : ℕ) → stage.world.due ≡ false → IsRun size told folder stage rs
+status_is : (terms : Terms) (told : Bool) (folder : Option (List NamedText)) (stage : Stage) (rs : List Round) (later : ℕ) → stage.world.due ≡ false → IsRun terms told folder stage rs
     → StatusOf rs later (status_from rs later)
-status_is size told folder stage [] later rest run = inl (refl, tt)
-status_is size told folder stage (x ∷ rs) later rest run =
-    by_cause (round_cause size told folder stage x.asked x.area x.journal x.reply x.after rest run.0) (λ h. status_is size told folder x.after rs later h run.1)
+status_is terms told folder stage [] later rest run = inl (refl, tt)
+status_is terms told folder stage (x ∷ rs) later rest run =
+    by_cause (round_cause terms told folder stage x.asked x.area x.journal x.reply x.after rest run.0) (λ h. status_is terms told folder x.after rs later h run.1)
   where
     by_cause : CauseOf x.reply → (x.after.world.due ≡ false → StatusOf rs later (status_from rs later)) → StatusOf (x ∷ rs) later (first_of (cause_of x.reply) (status_from rs later))
-    by_cause (inl e) behind = behind_calm x rs later (status_from rs later) e (behind (calm_rests size told folder stage x.asked x.area x.journal x.reply x.after rest run.0 e))
+    by_cause (inl e) behind = behind_calm x rs later (status_from rs later) e (behind (calm_rests terms told folder stage x.asked x.area x.journal x.reply x.after rest run.0 e))
     by_cause (inr (inl (e, f))) behind = inr (inl (ap (λ (k : ℕ). first_of k (status_from rs later)) e ∙ first_suc 2 (status_from rs later), omega (arith, f)))
     by_cause (inr (inr e)) behind = inr (inr (ap (λ (k : ℕ). first_of k (status_from rs later)) e ∙ first_suc 8 (status_from rs later)))
 
@@ -95,10 +96,10 @@ no_front : (xs ys : List ℕ) → xs ++ ys ≡ [] → xs ≡ []
 no_front [] ys e = refl
 no_front (x ∷ xs) ys e = absurd (cc)
 
-module _ (Stands : World → Type 0) (told : Bool) (size budget : ℕ) (store : View) (old new : Outside) (first : Stage) (rests : first.world.due ≡ false) (marks : List Mark) (status : ℕ)
-    (s : IsSession asks_of Stands told size budget store old new first marks status) where
+module _ (terms : Terms) (Stands : World → Type 0) (told : Bool) (budget : ℕ) (store : View) (old new : Outside) (first : Stage) (rests : first.world.due ≡ false) (marks : List Mark) (status : ℕ)
+    (s : IsSession terms asks_of Stands told budget store old new first marks status) where
   kind : StatusOf (s.told ++ s.untold) (status_of s.ending) status
-  kind = subst (λ (n : ℕ). StatusOf (s.told ++ s.untold) (status_of s.ending) n) (sym s.first_cause) (status_is size told old.folder first (s.told ++ s.untold) (status_of s.ending) rests s.run)
+  kind = subst (λ (n : ℕ). StatusOf (s.told ++ s.untold) (status_of s.ending) n) (sym s.first_cause) (status_is terms told old.folder first (s.told ++ s.untold) (status_of s.ending) rests s.run)
 
   abbrev EndsAs : Ending → Type 0
   EndsAs ending = Ends budget old new s.read s.beyond s.met_end s.told s.untold s.cut s.lost s.unasked ending
@@ -142,7 +143,7 @@ module _ (Stands : World → Type 0) (told : Bool) (size budget : ℕ) (store : 
 
   -- what was written is the output of all of the input, where the folder fixes it
   abbrev pub WroteAll : List ℕ → Type 0
-  WroteAll bytes = IsTrue (list_all (is_told old.folder) (asks_of bytes true)) → Appends old.written new.written (output_of size (texts_told old.folder) first (asks_of bytes true))
+  WroteAll bytes = IsTrue (list_all (is_told old.folder) (asks_of bytes true)) → Appends old.written new.written (output_of terms (texts_told old.folder) first (asks_of bytes true))
 
   -- With status 0 the output is that of all that was read, where the store tells its content.
   all_written : IsTrue told → EndsAs Ending.Ended → NoCauses (s.told ++ s.untold) → IfSome old.left (λ bytes. (length bytes ≤ budget) × WroteAll bytes)
@@ -158,11 +159,11 @@ module _ (Stands : World → Type 0) (told : Bool) (size budget : ℕ) (store : 
       front_all calm_same = ap (λ (b : Bool). take (length (calm old.folder (s.told ++ s.untold))) (asks_of s.read b)) e.2
           ∙ take_all (length (calm old.folder (s.told ++ s.untold))) (asks_of s.read true) (omega (arith, ap length asks, asked-length (s.told ++ s.untold), ap length calm_same))
 
-      out : calm old.folder (s.told ++ s.untold) ≡ s.told ++ s.untold → output s.told ++ s.cut ≡ output_of size (texts_told old.folder) first (asks_of s.read true)
+      out : calm old.folder (s.told ++ s.untold) ≡ s.told ++ s.untold → output s.told ++ s.cut ≡ output_of terms (texts_told old.folder) first (asks_of s.read true)
       out calm_same = ap (λ (l : List ℕ). output s.told ++ l) (no_front s.cut s.lost (s.cut_off ∙ ap output e.4)) ∙ append-nil (output s.told)
           ∙ ap output (sym (append-nil s.told) ∙ ap (λ (l : List Round). s.told ++ l) (sym e.4)) ∙ ap output (sym calm_same)
           ∙ output_told told (calm old.folder (s.told ++ s.untold)) _ tells s.fixed
-          ∙ ap (λ (l : List Request). output_of size (texts_told old.folder) first l) (front_all calm_same)
+          ∙ ap (λ (l : List Request). output_of terms (texts_told old.folder) first l) (front_all calm_same)
 
   pub whole_output : IsTrue told → status ≡ 0 → IfSome old.left (λ bytes. (length bytes ≤ budget) × WroteAll bytes)
   whole_output tells is = elim cause [
@@ -175,15 +176,15 @@ module _ (Stands : World → Type 0) (told : Bool) (size budget : ℕ) (store : 
   ]
 
   -- The causes of the status, over a journal that is not bad.
-  pub session_status : (tells : Bool) (journal : Content) → (IsTrue tells → (place : ℕ) → IsBadJournal journal_bytes journal place → ⊥) → HasStatus tells journal budget old new status
+  pub session_status : (tells : Bool) (journal : Content) → (IsTrue tells → (place : ℕ) → IsBadJournal terms journal place → ⊥) → HasStatus terms tells journal budget old new status
   session_status tells journal not_bad = elim cause [
-    | inl c ↦ by_end tells journal budget old new status not_bad c.0 (s.end c.1.2) (all_read c.1 (λ bytes. length bytes ≤ budget) s.within)
-    | inr (inl c) ↦ by_source tells journal budget old new status not_bad c.0 c.1.5
-    | inr (inr (inl c)) ↦ by_sink tells journal budget old new status not_bad c.0 c.1.4
-    | inr (inr (inr (inl c))) ↦ by_budget tells journal budget old new status not_bad c.0 (taken_more old.left new.left s.read s.beyond budget s.taken c.1.1 c.1.2)
-    | inr (inr (inr (inr (inl (is, inl rose))))) ↦ by_bank tells journal budget old new status is rose
-    | inr (inr (inr (inr (inl (is, inr rose))))) ↦ by_folder tells journal budget old new status not_bad is rose
-    | inr (inr (inr (inr (inr c)))) ↦ by_memory tells journal budget old new status c
+    | inl c ↦ by_end terms tells journal budget old new status not_bad c.0 (s.end c.1.2) (all_read c.1 (λ bytes. length bytes ≤ budget) s.within)
+    | inr (inl c) ↦ by_source terms tells journal budget old new status not_bad c.0 c.1.5
+    | inr (inr (inl c)) ↦ by_sink terms tells journal budget old new status not_bad c.0 c.1.4
+    | inr (inr (inr (inl c))) ↦ by_budget terms tells journal budget old new status not_bad c.0 (taken_more old.left new.left s.read s.beyond budget s.taken c.1.1 c.1.2)
+    | inr (inr (inr (inr (inl (is, inl rose))))) ↦ by_bank terms tells journal budget old new status is rose
+    | inr (inr (inr (inr (inl (is, inr rose))))) ↦ by_folder terms tells journal budget old new status not_bad is rose
+    | inr (inr (inr (inr (inr c)))) ↦ by_memory terms tells journal budget old new status c
   ]
 
   -- No session ends with status 1 or 2.
@@ -198,8 +199,8 @@ module _ (Stands : World → Type 0) (told : Bool) (size budget : ℕ) (store : 
   ]
 
 -- The journal of a settled store is not bad, so no status tells that it is.
-pub never_bad : (tells : Bool) (v : View) (budget : ℕ) (old new : Outside) (status : ℕ) (before : List HistoryStep) → HasStatus tells (v.content 0) budget old new status → IsTrue tells → IsSettled journal_bytes v before
+pub never_bad : (terms : Terms) (tells : Bool) (v : View) (budget : ℕ) (old new : Outside) (status : ℕ) (before : List HistoryStep) → HasStatus terms tells (v.content 0) budget old new status → IsTrue tells → IsSettled terms v before
     → status ≡ 2 → ⊥
-never_bad tells v budget old new status before h t settled is =
+never_bad terms tells v budget old new status before h t settled is =
     let bad = h.bad_journal is t in
-    not_bad_journal journal_bytes (v.content 0) before bad.0 (record { history = settled.now.history; records = settled.now.records }) bad.1
+    not_bad_journal terms (v.content 0) before bad.0 (record { history = settled.now.history; records = settled.now.records }) bad.1

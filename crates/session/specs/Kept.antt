@@ -2,6 +2,7 @@
 use Rattle.std.specs.Prelude.{◌≡◌, ◌⊎◌, ◌≤◌, ℕ, List, [], ◌∷◌, ◌++◌, take}
 use Rattle.bank.specs.Content.{Image}
 use Rattle.bank.specs.View.{View, IsImage, LeavesOnly}
+use Rattle.site_history.specs.Terms.{Terms}
 use Rattle.site_history.specs.Steps.{HistoryStep}
 use Rattle.site_history.specs.Worlds.{World}
 use Rattle.site_history.specs.Images.{Reads, ReadsAs}
@@ -11,11 +12,11 @@ use Rattle.session.specs.declared.kept.Mark.{Mark}
 -- From a moment on, from a world on: an image that a crash left while a round was in hand reads as the world before it or as
 -- the one after it, each as its history or as that with the step which it owes; any other is one since the round's end. And
 -- so on; behind the last round an image reads as the last world.
-abbrev pub AreKept : ℕ → View → ℕ → World → List Round → Type 0
-AreKept size v from w [] = (c : Image) → v.left_since from c → ReadsAs size w c
-AreKept size v from w (round ∷ rounds) =
-    ((c : Image) → v.left_since from c → v.left_since round.moment c ⊎ (ReadsAs size w c ⊎ ReadsAs size round.after.world c))
-    × AreKept size v round.moment round.after.world rounds
+abbrev pub AreKept : Terms → View → ℕ → World → List Round → Type 0
+AreKept terms v from w [] = (c : Image) → v.left_since from c → ReadsAs terms w c
+AreKept terms v from w (round ∷ rounds) =
+    ((c : Image) → v.left_since from c → v.left_since round.moment c ⊎ (ReadsAs terms w c ⊎ ReadsAs terms round.after.world c))
+    × AreKept terms v round.moment round.after.world rounds
 
 -- a list of steps begins with these
 abbrev pub BeginsWith : List HistoryStep → List HistoryStep → Type 0
@@ -23,9 +24,9 @@ BeginsWith front steps = (more : List HistoryStep) × (steps ≡ front ++ more)
 
 -- Each step that was acknowledged is held: whatever a crash left since the moment of a mark reads as a history that begins with
 -- the first steps of the last history, as many as the mark counts.
-abbrev pub AreHeld : ℕ → View → List HistoryStep → List Mark → Type 0
-AreHeld size v last [] = Unit {0}
-AreHeld size v last (mark ∷ marks) = ((c : Image) → v.left_since mark.moment c → (steps : List HistoryStep) × Reads size c steps × BeginsWith (take mark.steps last) steps) × AreHeld size v last marks
+abbrev pub AreHeld : Terms → View → List HistoryStep → List Mark → Type 0
+AreHeld terms v last [] = Unit {0}
+AreHeld terms v last (mark ∷ marks) = ((c : Image) → v.left_since mark.moment c → (steps : List HistoryStep) × Reads terms c steps × BeginsWith (take mark.steps last) steps) × AreHeld terms v last marks
 
 -- An image that a crash left while the store was opened is one that it might have left at entry; any other is one since it was open.
 pub record IsOpening (entry v : View) (opened : ℕ) : Type 0 where

@@ -8,6 +8,7 @@ use Rattle.outside.specs.Streams.{IsCut}
 use Rattle.bank.specs.View.{View, LeavesOnly, IsSince}
 use Rattle.site_events.specs.declared.reply.Reply.{Reply}
 use Rattle.desk.specs.Texts.{text_of}
+use Rattle.site_history.specs.Terms.{Terms}
 use Rattle.site_history.specs.Worlds.{World}
 use Rattle.site_history.specs.Images.{ReadsAs}
 use Rattle.session.specs.Asking.{Request}
@@ -31,11 +32,11 @@ Tells written written' faults faults' marks marks' (Some OverBudget) reply mark 
 
 -- A round from a stage: what was asked, what it did to sink, folder and store, and whether it ended the run. Each image that a
 -- crash left meanwhile reads as the world before or as the one after it, and each since its end as the one after it.
-pub record IsRound (Stands : World → Type 0) (tells : Bool) (size : ℕ) (folder : Option (List NamedText)) (store store' : View) (stage : Stage) (request : Request)
+pub record IsRound (terms : Terms) (Stands : World → Type 0) (tells : Bool) (folder : Option (List NamedText)) (store store' : View) (stage : Stage) (request : Request)
     (written written' : Option (List ℕ)) (faults faults' folder_faults folder_faults' bank_faults bank_faults' journal_faults journal_faults' last_fault : ℕ)
     (marks marks' : List Mark) (status status' : ℕ) (end : Option Ending) (round : Round) : Type 0 where
   pub same : round.asked ≡ request
-  pub turn : IsRoundOf size tells folder stage request round.area round.journal round.reply round.after
+  pub turn : IsRoundOf terms tells folder stage request round.area round.journal round.reply round.after
   pub stands : Stands round.after.world
   pub first_cause : status' ≡ first_of status (cause_of round.reply)
   pub counted : AreCounted bank_faults (faults_of round.reply) bank_faults'
@@ -44,6 +45,6 @@ pub record IsRound (Stands : World → Type 0) (tells : Bool) (size : ℕ) (fold
   pub journal_stood : IsTrue tells → (c : Image) × IsSince store' store.moment c × (round.journal ≡ c 0)
   pub folder_counted : AreCounted folder_faults (folder_faults_of round.reply) folder_faults'
   pub moment : IsTrue tells → round.moment ≡ store'.moment
-  pub meanwhile : IsTrue tells → LeavesOnly store store' (λ c. ReadsAs size stage.world c ⊎ ReadsAs size round.after.world c)
-  pub since : IsTrue tells → (c : Image) → store'.left_since store'.moment c → ReadsAs size round.after.world c
+  pub meanwhile : IsTrue tells → LeavesOnly store store' (λ c. ReadsAs terms stage.world c ⊎ ReadsAs terms round.after.world c)
+  pub since : IsTrue tells → (c : Image) → store'.left_since store'.moment c → ReadsAs terms round.after.world c
   pub tells_answer : Tells written written' faults faults' marks marks' end round.reply (mark_of (length marks + 1) round)

@@ -8,6 +8,7 @@ use Rattle.bank.specs.Content.{Content}
 use Rattle.bank.specs.View.{View, OnlyRead}
 use Rattle.site_events.specs.declared.reply.Reply.TheVariants.{BadJournal}
 use Rattle.desk.specs.Texts.{text_of}
+use Rattle.site_history.specs.Terms.{Terms}
 use Rattle.site_history.specs.Steps.{HistoryStep}
 use Rattle.site_history.specs.Worlds.{new_world, IsFound}
 use Rattle.site_history.specs.Images.{IsSettled, IsSettledAs}
@@ -23,58 +24,62 @@ use Rattle.session.specs.declared.kept.Mark.{Mark}
 abbrev pub journal_bytes : ℕ
 journal_bytes = 268435456
 
+-- the terms of a run, with these patterns
+abbrev pub run_terms : (List ℕ → List ℕ → Bool) → Terms
+run_terms finds = record { size = journal_bytes; finds = finds }
+
 -- a run over a site of this history begins at the moment of its last step
-abbrev pub stage_of : List HistoryStep → Stage
-stage_of history = record { world = new_world history; now = (new_world history).clock }
+abbrev pub stage_of : Terms → List HistoryStep → Stage
+stage_of terms history = record { world = new_world terms history; now = (new_world terms history).clock }
 
 -- why nothing was asked: a fault of the store, want of memory, or a bad journal, which is told with its place
-abbrev pub Refusal : Outside → Outside → Bool → Content → ℕ → Type 0
-Refusal old new tells journal status =
+abbrev pub Refusal : Terms → Outside → Outside → Bool → Content → ℕ → Type 0
+Refusal terms old new tells journal status =
     ((status ≡ 3) × Rose old.bank_faults new.bank_faults × Appends old.written new.written [])
     ⊎ ((status ≡ 9) × Appends old.written new.written [])
-    ⊎ ((place : ℕ) × (status ≡ 2) × (IsTrue tells → IsBadJournal journal_bytes journal place)
+    ⊎ ((place : ℕ) × (status ≡ 2) × (IsTrue tells → IsBadJournal terms journal place)
     × IsWritten old.written new.written old.sink_faults new.sink_faults (text_of (BadJournal place)))
 
 -- The store was not opened, or no memory was found to read a line. Nothing was read of the source and of the folder, and the
 -- store was only read, whatever stands in it; `tells` is whether it tells its content.
-pub record IsRefused (tells : Bool) (entry store : View) (old new : Outside) (marks : List Mark) (status : ℕ) : Type 0 where
+pub record IsRefused (terms : Terms) (tells : Bool) (entry store : View) (old new : Outside) (marks : List Mark) (status : ℕ) : Type 0 where
   pub unread : new.left ≡ old.left
   pub no_read_failed : new.source_faults ≡ old.source_faults
   pub folder_stays : new.folder ≡ old.folder
   pub folder_unread : new.folder_faults ≡ old.folder_faults
   pub no_marks : marks ≡ []
-  pub refusal : Refusal old new tells (entry.content 0) status
+  pub refusal : Refusal terms old new tells (entry.content 0) status
   pub only_read : IsTrue tells → OnlyRead entry store
 
 -- The store was opened, and a session followed. At its end the store is settled for the last world: for its history, or for
 -- that with the step that is owed.
-pub record IsAnswered (tells : Bool) (budget : ℕ) (entry store : View) (old new : Outside) (before : List HistoryStep) (marks : List Mark) (status : ℕ) : Type 0 where
+pub record IsAnswered (terms : Terms) (tells : Bool) (budget : ℕ) (entry store : View) (old new : Outside) (before : List HistoryStep) (marks : List Mark) (status : ℕ) : Type 0 where
   pub found : List HistoryStep
-  pub is_found : IsFound tells before found
+  pub is_found : IsFound terms tells before found
   -- the moment at which it was open
   pub opened : ℕ
   pub opening : IsTrue tells → IsOpening entry store opened
-  pub session : IsSession asks_of (λ w. IsTrue tells → IsSettledAs journal_bytes store w) tells journal_bytes budget store (record old { moment = opened }) new (stage_of found) marks status
+  pub session : IsSession terms asks_of (λ w. IsTrue tells → IsSettledAs terms store w) tells budget store (record old { moment = opened }) new (stage_of terms found) marks status
   -- a step is owed only after a fault of the journal
-  pub rests : (Rose old.journal_faults new.journal_faults → ⊥) → (stage_after (stage_of found) (session.told ++ session.untold)).world.owed ≡ None
+  pub rests : (Rose old.journal_faults new.journal_faults → ⊥) → (stage_after (stage_of terms found) (session.told ++ session.untold)).world.owed ≡ None
   -- each acknowledged step is held by whatever a crash left since its mark
-  pub acknowledged : IsTrue tells → AreHeld journal_bytes store (stage_after (stage_of found) (session.told ++ session.untold)).world.history marks
+  pub acknowledged : IsTrue tells → AreHeld terms store (stage_after (stage_of terms found) (session.told ++ session.untold)).world.history marks
   -- with status 0 what was written is the machine's output for all that was read; that is fixed but where `configure` was asked
   -- and the folder tells nothing
   pub whole : IsTrue tells → status ≡ 0 → IfSome old.left (λ bytes. (length bytes ≤ budget)
       × (IsTrue (list_all (is_told old.folder) (asks_of bytes true))
-      → Appends old.written new.written (output_of journal_bytes (texts_told old.folder) (stage_of found) (asks_of bytes true))))
+      → Appends old.written new.written (output_of terms (texts_told old.folder) (stage_of terms found) (asks_of bytes true))))
 
 -- What a call does; `tells` is whether the store tells its content. Where `told` that is made use of: the store was then settled
 -- for this history before the call. It was opened, and a session followed; or it was refused, and is as settled as before.
-abbrev pub IsOutcome : Bool → Bool → ℕ → View → View → Outside → Outside → List HistoryStep → List Mark → ℕ → Type 0
-IsOutcome told tells budget entry store old new before marks status = IsAnswered told budget entry store old new before marks status
-    ⊎ (IsRefused tells entry store old new marks status × (IsTrue told → IsSettled journal_bytes store before))
+abbrev pub IsOutcome : Terms → Bool → Bool → ℕ → View → View → Outside → Outside → List HistoryStep → List Mark → ℕ → Type 0
+IsOutcome terms told tells budget entry store old new before marks status = IsAnswered terms told budget entry store old new before marks status
+    ⊎ (IsRefused terms tells entry store old new marks status × (IsTrue told → IsSettled terms store before))
 
 -- The causes of a status, over any store, and what the statuses 0 and 7 mean. `journal` is what stands in the journal's area.
-pub record HasStatus (tells : Bool) (journal : Content) (budget : ℕ) (old new : Outside) (status : ℕ) : Type 0 where
+pub record HasStatus (terms : Terms) (tells : Bool) (journal : Content) (budget : ℕ) (old new : Outside) (status : ℕ) : Type 0 where
   -- a bad journal is met at opening; at a reopening, which comes after a fault of the store alone, that fault is the first cause
-  pub bad_journal : status ≡ 2 → IsTrue tells → (place : ℕ) × IsBadJournal journal_bytes journal place
+  pub bad_journal : status ≡ 2 → IsTrue tells → (place : ℕ) × IsBadJournal terms journal place
   -- a fault of the store or of the folder
   pub fault : status ≡ 3 → Rose old.bank_faults new.bank_faults ⊎ Rose old.folder_faults new.folder_faults
   pub source : status ≡ 4 → Rose old.source_faults new.source_faults
@@ -82,7 +87,7 @@ pub record HasStatus (tells : Bool) (journal : Content) (budget : ℕ) (old new 
   pub over : status ≡ 7 → IfSome old.left (λ bytes. budget < length bytes)
   pub read : status ≡ 0 → IsAtEnd new.left
   -- where the journal is bad the status is 2, but for a fault of the store and want of memory
-  pub refused : IsTrue tells → (place : ℕ) → IsBadJournal journal_bytes journal place → (status ≡ 2) ⊎ (status ≡ 9) ⊎ ((status ≡ 3) × Rose old.bank_faults new.bank_faults)
+  pub refused : IsTrue tells → (place : ℕ) → IsBadJournal terms journal place → (status ≡ 2) ⊎ (status ≡ 9) ⊎ ((status ≡ 3) × Rose old.bank_faults new.bank_faults)
   -- where no count rose, an input within the budget ends with 0, a longer one with 7, but for a bad journal and want of memory
   pub complete : (Rose old.bank_faults new.bank_faults → ⊥) → (Rose old.folder_faults new.folder_faults → ⊥) → (Rose old.source_faults new.source_faults → ⊥)
       → (Rose old.sink_faults new.sink_faults → ⊥)

@@ -4,6 +4,7 @@ use Rattle.std.specs.Io.KnownBytes.{Appends}
 use Rattle.base.specs.Causes.{AreCounted}
 use Rattle.bank.specs.View.{View}
 use Rattle.input.specs.Reading.{Reading, Items, Moved}
+use Rattle.site_history.specs.Terms.{Terms}
 use Rattle.site_history.specs.Worlds.{World}
 use Rattle.session.specs.Asking.{Request}
 use Rattle.session.specs.Rounds.{Stage, Round, GoOn, IsRun, stage_after, asked, output, AreInTime, marks_from, status_from, faults_in, journal_faults_in, IsLastArea, JournalsStood, folder_faults_in}
@@ -12,13 +13,13 @@ use Rattle.session.specs.Kept.{AreKept}
 use Rattle.session.specs.declared.kept.Mark.{Mark}
 
 -- all that was asked was answered whole, and the run goes on
-pub record Ran (Asks : Items Request) (Stands : World → Type 0) (tells : Bool) (size : ℕ) (store : View) (old new : Outside) (start reader : Reading) (first : Stage) (moment : ℕ) (marks : List Mark) (status : ℕ) : Type 0 where
+pub record Ran (terms : Terms) (Asks : Items Request) (Stands : World → Type 0) (tells : Bool) (store : View) (old new : Outside) (start reader : Reading) (first : Stage) (moment : ℕ) (marks : List Mark) (status : ℕ) : Type 0 where
   pub rounds : List Round
   pub used : List ℕ
   pub moved : Moved old.left new.left start reader used []
   pub opened : reader.ended ≡ false → (more : List ℕ) (ended : Bool) → Asks (used ++ more) ended ≡ asked rounds ++ Asks more ended
   pub whole : reader.ended ≡ true → Asks used true ≡ asked rounds
-  pub run : IsRun size tells old.folder first rounds
+  pub run : IsRun terms tells old.folder first rounds
   pub go_on : GoOn rounds
   pub stands : Stands (stage_after first rounds).world
   -- the moment of the events from now on
@@ -26,7 +27,7 @@ pub record Ran (Asks : Items Request) (Stands : World → Type 0) (tells : Bool)
   pub written : Appends old.written new.written (output rounds)
   pub marks_told : marks ≡ marks_from 0 rounds
   pub in_time : IsTrue tells → AreInTime old.moment rounds new.moment
-  pub kept : IsTrue tells → AreKept size store old.moment first.world rounds
+  pub kept : IsTrue tells → AreKept terms store old.moment first.world rounds
   pub counted : AreCounted old.bank_faults (faults_in rounds) new.bank_faults
   pub journal_counted : AreCounted old.journal_faults (journal_faults_in rounds) new.journal_faults
   pub last_area : IsLastArea rounds new.last_fault

@@ -12,6 +12,7 @@ use Rattle.site_events.specs.declared.reply.Reply.{Reply}
 use Rattle.site_events.specs.declared.reply.Reply.TheVariants.{Line, At, BankFault, FolderFault, BadJournal, NoMemory}
 use Rattle.desk.specs.Texts.{text_of}
 use Rattle.configuration.specs.FolderTexts.{AreRead}
+use Rattle.site_history.specs.Terms.{Terms}
 use Rattle.site_history.specs.Worlds.{World, EventTurn}
 use Rattle.session.specs.Asking.{Request}
 use Rattle.session.specs.declared.kept.Mark.{Mark}
@@ -38,28 +39,28 @@ abbrev pub Answers : Reply → Stage → Reply → Stage → Type 0
 Answers defined stage reply stage' = ((reply ≡ defined) ⊎ (reply ≡ NoMemory)) × (stage' ≡ stage)
 
 -- an event of the machine, at the run's moment
-abbrev pub IsEvent : ℕ → Bool → Stage → Event → ℕ → Content → Reply → Stage → Type 0
-IsEvent size told stage event area journal reply stage' =
-    (w' : World) × EventTurn size told stage.world event stage.now area journal reply w' × (stage' ≡ record { world = w'; now = stage.now })
+abbrev pub IsEvent : Terms → Bool → Stage → Event → ℕ → Content → Reply → Stage → Type 0
+IsEvent terms told stage event area journal reply stage' =
+    (w' : World) × EventTurn terms told stage.world event stage.now area journal reply w' × (stage' ≡ record { world = w'; now = stage.now })
 
 -- One round from a stage, over a journal of this size; `told` is whether the store tells its content, `folder` what the folder
 -- tells, `area` that of the store's last fault, and `journal` what the journal's area read when the round began. An event is one
 -- of the machine. `at` moves the run's moment on. `configure` is the event of the texts that were read of the folder; where they
 -- could not be read, all stays. Or no memory was found to read the line. What is asked otherwise is no command.
-abbrev pub IsRoundOf : ℕ → Bool → Option (List NamedText) → Stage → Request → ℕ → Content → Reply → Stage → Type 0
-IsRoundOf size told folder stage (Err refusal) area journal reply stage' = Answers (Line refusal) stage reply stage'
-IsRoundOf size told folder stage (Ok (One event)) area journal reply stage' = ((reply ≡ NoMemory) × (stage' ≡ stage)) ⊎ IsEvent size told stage event area journal reply stage'
-IsRoundOf size told folder stage (Ok (AskedAt moment)) area journal reply stage' = ((reply ≡ NoMemory) × (stage' ≡ stage))
+abbrev pub IsRoundOf : Terms → Bool → Option (List NamedText) → Stage → Request → ℕ → Content → Reply → Stage → Type 0
+IsRoundOf terms told folder stage (Err refusal) area journal reply stage' = Answers (Line refusal) stage reply stage'
+IsRoundOf terms told folder stage (Ok (One event)) area journal reply stage' = ((reply ≡ NoMemory) × (stage' ≡ stage)) ⊎ IsEvent terms told stage event area journal reply stage'
+IsRoundOf terms told folder stage (Ok (AskedAt moment)) area journal reply stage' = ((reply ≡ NoMemory) × (stage' ≡ stage))
     ⊎ ((reply ≡ At (max moment stage.now)) × (stage' ≡ record { world = stage.world; now = max moment stage.now }))
-IsRoundOf size told folder stage (Ok Configure) area journal reply stage' = (((reply ≡ FolderFault) ⊎ (reply ≡ NoMemory)) × (stage' ≡ stage))
-    ⊎ ((texts : SiteTexts) × AreRead folder texts × IsEvent size told stage (ConfigureEvent texts) area journal reply stage')
-IsRoundOf size told folder stage (Ok _) area journal reply stage' = Answers (Line NotACommand) stage reply stage'
+IsRoundOf terms told folder stage (Ok Configure) area journal reply stage' = (((reply ≡ FolderFault) ⊎ (reply ≡ NoMemory)) × (stage' ≡ stage))
+    ⊎ ((texts : SiteTexts) × AreRead folder texts × IsEvent terms told stage (ConfigureEvent texts) area journal reply stage')
+IsRoundOf terms told folder stage (Ok _) area journal reply stage' = Answers (Line NotACommand) stage reply stage'
 
 -- each round goes on from where the one before it stopped
-abbrev pub IsRun : ℕ → Bool → Option (List NamedText) → Stage → List Round → Type 0
-IsRun size told folder stage [] = Unit {0}
-IsRun size told folder stage (round ∷ rounds) =
-    IsRoundOf size told folder stage round.asked round.area round.journal round.reply round.after × IsRun size told folder round.after rounds
+abbrev pub IsRun : Terms → Bool → Option (List NamedText) → Stage → List Round → Type 0
+IsRun terms told folder stage [] = Unit {0}
+IsRun terms told folder stage (round ∷ rounds) =
+    IsRoundOf terms told folder stage round.asked round.area round.journal round.reply round.after × IsRun terms told folder round.after rounds
 
 abbrev pub stage_after : Stage → List Round → Stage
 stage_after stage [] = stage

@@ -5,6 +5,7 @@ use Rattle.base.specs.Causes.{Rose, AreCounted}
 use Rattle.outside.specs.declared.folder.NamedText.{NamedText}
 use Rattle.bank.specs.View.{View}
 use Rattle.input.specs.Reading.{Items}
+use Rattle.site_history.specs.Terms.{Terms}
 use Rattle.site_history.specs.Worlds.{World}
 use Rattle.session.specs.Asking.{Request}
 use Rattle.session.specs.Rounds.{Stage, Round, IsRun, stage_after, asked, output, AreInTime, marks_from, status_from, faults_in, journal_faults_in, IsLastArea, JournalsStood, folder_faults_in, GoOn, ends_run, calm}
@@ -73,7 +74,7 @@ Ends budget old new read beyond met_end told untold cut lost unasked NoMemory =
 -- A session from a stage, over a journal of this size: what was read, asked, answered and written, what ended it, and what a
 -- crash at any moment left. `Asks` is what a text asks, `Stands` says for which world the store stands at the end, `tells`
 -- whether the store tells its content, and `store` what it tells at the end.
-pub record IsSession (Asks : Items Request) (Stands : World → Type 0) (tells : Bool) (size budget : ℕ) (store : View) (old new : Outside) (first : Stage) (marks : List Mark) (status : ℕ) : Type 0 where
+pub record IsSession (terms : Terms) (Asks : Items Request) (Stands : World → Type 0) (tells : Bool) (budget : ℕ) (store : View) (old new : Outside) (first : Stage) (marks : List Mark) (status : ℕ) : Type 0 where
   -- the bytes taken from the source, within the budget and beyond it
   pub read : List ℕ
   pub beyond : List ℕ
@@ -86,7 +87,7 @@ pub record IsSession (Asks : Items Request) (Stands : World → Type 0) (tells :
   pub untold : List Round
   pub unasked : List Request
   pub asks : asked (told ++ untold) ++ unasked ≡ Asks read met_end
-  pub run : IsRun size tells old.folder first (told ++ untold)
+  pub run : IsRun terms tells old.folder first (told ++ untold)
   pub stands : Stands (stage_after first (told ++ untold)).world
   -- what was written
   pub cut : List ℕ
@@ -96,7 +97,7 @@ pub record IsSession (Asks : Items Request) (Stands : World → Type 0) (tells :
   pub marks_told : marks ≡ marks_from 0 told
   pub in_time : IsTrue tells → AreInTime old.moment (told ++ untold) new.moment
   -- what a crash left at any moment since
-  pub kept : IsTrue tells → AreKept size store old.moment first.world (told ++ untold)
+  pub kept : IsTrue tells → AreKept terms store old.moment first.world (told ++ untold)
   -- what the journal's area read when each round began
   pub journals_stood : IsTrue tells → JournalsStood store old.moment (told ++ untold)
   -- what was counted
@@ -112,4 +113,4 @@ pub record IsSession (Asks : Items Request) (Stands : World → Type 0) (tells :
   -- Up to the first fault or want of memory all answers and worlds are the machine's, for the bytes that were read and the
   -- folder's texts. Where the folder tells nothing, so it is up to the first `configure` as well.
   pub fixed : AreTold tells (calm old.folder (told ++ untold))
-      (machine_run size (texts_told old.folder) first (take (length (calm old.folder (told ++ untold))) (Asks read met_end)))
+      (machine_run terms (texts_told old.folder) first (take (length (calm old.folder (told ++ untold))) (Asks read met_end)))

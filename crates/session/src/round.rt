@@ -1,6 +1,7 @@
 //! One round: what was asked is answered, the answer is written, and a mark is kept.
 
 ghost use Rattle.std.specs.Prelude.{◌≡◌, ◌≤◌, ◌+◌, length, IsTrue, Bool, Ok};
+ghost use Rattle.site_history.specs.Terms.{Terms};
 ghost use Rattle.base.specs.Causes.{AreCounted};
 ghost use Rattle.site_history.specs.Worlds.{World};
 ghost use Rattle.engine.specs.StandsFor.{StandsFor, Moves};
@@ -65,9 +66,9 @@ fn configure<B: Bank, P: Drop, F: Folder>(
     now: u64,
     folder: &mut F,
 ) -> Reply
-    ensures round { (told : Bool) → (IsTrue told → IsTrue B.tells) → (stage : Stage) → StandsFor told B.view engine.old stage.world → stage.now ≡ now
-        → (stage' : Stage) × IsRoundOf engine.old.journal.size told (F.texts folder.old) stage (Ok Asked.Configure) (B.last_fault engine.new.bank) ((B.view engine.old.bank).content 0) result stage'
-        × Moves told B.view engine.old engine.new stage.world stage'.world × (now ≡ stage'.now)
+    ensures round { (terms : Terms) (told : Bool) → (IsTrue told → IsTrue B.tells) → (stage : Stage) → StandsFor terms told B.view engine.old stage.world → stage.now ≡ now
+        → (stage' : Stage) × IsRoundOf terms told (F.texts folder.old) stage (Ok Asked.Configure) (B.last_fault engine.new.bank) ((B.view engine.old.bank).content 0) result stage'
+        × Moves terms told B.view engine.old engine.new stage.world stage'.world × (now ≡ stage'.now)
         × AreCounted (F.faults folder.old) (folder_faults_of result) (F.faults folder.new) }
     ensures counted { AreCounted (B.faults engine.old.bank) (faults_of result) (B.faults engine.new.bank) }
     ensures later { B.faults engine.old.bank ≤ B.faults engine.new.bank }
@@ -94,10 +95,10 @@ fn respond<B: Bank, P: Drop, F: Folder>(
     folder: &mut F,
     asked: Result<Asked, LineRefusal>,
 ) -> Reply
-    ensures round { (told : Bool) → (IsTrue told → IsTrue B.tells) → (stage : Stage) → StandsFor told B.view engine.old stage.world → stage.now ≡ now.old
+    ensures round { (terms : Terms) (told : Bool) → (IsTrue told → IsTrue B.tells) → (stage : Stage) → StandsFor terms told B.view engine.old stage.world → stage.now ≡ now.old
         → (request : Request) → IsReadAs asked request
-        → (stage' : Stage) × IsRoundOf engine.old.journal.size told (F.texts folder.old) stage request (B.last_fault engine.new.bank) ((B.view engine.old.bank).content 0) result stage'
-        × Moves told B.view engine.old engine.new stage.world stage'.world × (now.new ≡ stage'.now)
+        → (stage' : Stage) × IsRoundOf terms told (F.texts folder.old) stage request (B.last_fault engine.new.bank) ((B.view engine.old.bank).content 0) result stage'
+        × Moves terms told B.view engine.old engine.new stage.world stage'.world × (now.new ≡ stage'.now)
         × AreCounted (F.faults folder.old) (folder_faults_of result) (F.faults folder.new) }
     ensures counted { AreCounted (B.faults engine.old.bank) (faults_of result) (B.faults engine.new.bank) }
     ensures later { B.faults engine.old.bank ≤ B.faults engine.new.bank }
@@ -129,11 +130,11 @@ fn answer<B: Bank, P: Drop, F: Folder>(
     folder: &mut F,
     asked: Result<Asked, LineRefusal>,
 ) -> Reply
-    ensures round { (told : Bool) → (IsTrue told → IsTrue B.tells) → (stage : Stage) → StandsFor told B.view session.old.engine stage.world → stage.now ≡ session.old.moment
+    ensures round { (terms : Terms) (told : Bool) → (IsTrue told → IsTrue B.tells) → (stage : Stage) → StandsFor terms told B.view session.old.engine stage.world → stage.now ≡ session.old.moment
         → (request : Request) → IsReadAs asked request
-        → (stage' : Stage) × IsRoundOf session.old.engine.journal.size told (F.texts folder.old) stage request
+        → (stage' : Stage) × IsRoundOf terms told (F.texts folder.old) stage request
         (B.last_fault session.new.engine.bank) ((B.view session.old.engine.bank).content 0) result stage'
-        × Moves told B.view session.old.engine session.new.engine stage.world stage'.world × (session.new.moment ≡ stage'.now)
+        × Moves terms told B.view session.old.engine session.new.engine stage.world stage'.world × (session.new.moment ≡ stage'.now)
         × AreCounted (F.faults folder.old) (folder_faults_of result) (F.faults folder.new) }
     ensures counted { AreCounted (B.faults session.old.engine.bank) (faults_of result) (B.faults session.new.engine.bank) }
     ensures later { B.faults session.old.engine.bank ≤ B.faults session.new.engine.bank }
@@ -159,7 +160,7 @@ fn answer<B: Bank, P: Drop, F: Folder>(
 /// The mark of the next answer.
 fn next_mark<B: Bank, P: Drop>(session: &Session<B, P>) -> Mark
     ensures answered { result.answered ≡ length session.now.marks.items + 1 }
-    ensures steps { (told : Bool) (w : World) → StandsFor told B.view session.now.engine w → result.steps ≡ length w.history }
+    ensures steps { (terms : Terms) (told : Bool) (w : World) → StandsFor terms told B.view session.now.engine w → result.steps ≡ length w.history }
     ensures moment { IsTrue B.tells → result.moment ≡ (B.view session.now.engine.bank).moment }
 {
     Mark {
@@ -209,9 +210,9 @@ pub fn one_round<B: Bank, P: Drop, F: Folder, O: Sink>(
     asked: Result<Asked, LineRefusal>,
     output: &mut O,
 ) -> Option<Ending>
-    ensures round { (told : Bool) → (IsTrue told → IsTrue B.tells) → (stage : Stage) → StandsFor told B.view session.old.engine stage.world → stage.now ≡ session.old.moment
+    ensures round { (terms : Terms) (told : Bool) → (IsTrue told → IsTrue B.tells) → (stage : Stage) → StandsFor terms told B.view session.old.engine stage.world → stage.now ≡ session.old.moment
         → (request : Request) → IsReadAs asked request → (round : Round)
-        × IsRound (StandsFor told B.view session.new.engine) told session.old.engine.journal.size (F.texts folder.old) (B.view session.old.engine.bank) (B.view session.new.engine.bank) stage request
+        × IsRound terms (StandsFor terms told B.view session.new.engine) told (F.texts folder.old) (B.view session.old.engine.bank) (B.view session.new.engine.bank) stage request
         (O.written output.old) (O.written output.new) (O.faults output.old) (O.faults output.new) (F.faults folder.old) (F.faults folder.new)
         (B.faults session.old.engine.bank) (B.faults session.new.engine.bank) (B.journal_faults session.old.engine.bank) (B.journal_faults session.new.engine.bank)
         (B.last_fault session.new.engine.bank) session.old.marks.items session.new.marks.items session.old.status session.new.status result round

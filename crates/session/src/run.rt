@@ -1,6 +1,7 @@
 //! Runs.
 
 ghost use Rattle.std.specs.Prelude.{◌≡◌, ◌≢◌, ◌≤◌, ℕ, [], false, Bool, IsTrue, List as Seq};
+ghost use Rattle.site_history.specs.Terms.{Terms};
 ghost use Rattle.input.specs.Reading.{Begins};
 ghost use Rattle.site_history.specs.Steps.{HistoryStep};
 ghost use Rattle.site_history.specs.Images.{IsSettled};
@@ -54,13 +55,13 @@ pub fn converse<B: Bank, P: Drop, F: Folder, I: Source, O: Sink>(
     requires status { session.old.status ≡ 0 }
     requires ready { session.old.engine.due ≡ false }
     requires fresh { Begins reader.old.budget reader.old }
-    ensures session { (told : Bool) → (IsTrue told → IsTrue B.tells) → (stage : Stage) → StandsFor told B.view session.old.engine stage.world → session.old.moment ≡ stage.now
-        → IsSession asks_of (StandsFor told B.view session.new.engine) told session.old.engine.journal.size reader.old.budget (B.view session.new.engine.bank)
+    ensures session { (terms : Terms) (told : Bool) → (IsTrue told → IsTrue B.tells) → (stage : Stage) → StandsFor terms told B.view session.old.engine stage.world → session.old.moment ≡ stage.now
+        → IsSession terms asks_of (StandsFor terms told B.view session.new.engine) told reader.old.budget (B.view session.new.engine.bank)
         (seen I.left I.faults O.written O.faults F.texts F.faults B.faults B.journal_faults B.last_fault B.view input.old output.old folder.old session.old.engine.bank)
         (seen I.left I.faults O.written O.faults F.texts F.faults B.faults B.journal_faults B.last_fault B.view input.new output.new folder.new session.new.engine.bank)
         stage session.new.marks.items (first_of session.new.status (status_of result)) }
     // Time goes on.
-    ensures passes { (told : Bool) → (IsTrue told → IsTrue B.tells) → (stage : Stage) → StandsFor told B.view session.old.engine stage.world → session.old.moment ≡ stage.now
+    ensures passes { (terms : Terms) (told : Bool) → (IsTrue told → IsTrue B.tells) → (stage : Stage) → StandsFor terms told B.view session.old.engine stage.world → session.old.moment ≡ stage.now
         → IsTrue told → Passes (B.view session.old.engine.bank) (B.view session.new.engine.bank) }
     ensures size { session.new.engine.journal.size ≡ session.old.engine.journal.size }
     ensures folder_texts { F.texts folder.new ≡ F.texts folder.old }
@@ -153,20 +154,20 @@ pub fn run_lines<B: Bank, C: Clock, F: Folder, P: Patterns, I: Source, O: Sink>(
 ) -> Outcome<B, P>
     // Over a store that is settled for a history, or over any store that tells nothing: what was read, asked, answered and
     // written, what ended the run, and what each crash meanwhile may leave.
-    ensures outcome { (told : Bool) → (IsTrue told → IsTrue B.tells) → (before : Seq HistoryStep) → (IsTrue told → IsSettled journal_bytes (B.view bank) before)
-        → IsOutcome told B.tells budget (B.view bank) (B.view result.bank)
+    ensures outcome { (told : Bool) → (IsTrue told → IsTrue B.tells) → (before : Seq HistoryStep) → (IsTrue told → IsSettled (run_terms (P.found patterns)) (B.view bank) before)
+        → IsOutcome (run_terms (P.found patterns)) told B.tells budget (B.view bank) (B.view result.bank)
         (seen I.left I.faults O.written O.faults F.texts F.faults B.faults B.journal_faults B.last_fault B.view input.old output.old folder.old bank)
         (seen I.left I.faults O.written O.faults F.texts F.faults B.faults B.journal_faults B.last_fault B.view input.new output.new folder.new result.bank)
         before result.marks result.status }
     // The causes of the status, over any store, and what the statuses 0, 2 and 7 mean.
-    ensures status { HasStatus B.tells ((B.view bank).content 0) budget
+    ensures status { HasStatus (run_terms (P.found patterns)) B.tells ((B.view bank).content 0) budget
         (seen I.left I.faults O.written O.faults F.texts F.faults B.faults B.journal_faults B.last_fault B.view input.old output.old folder.old bank)
         (seen I.left I.faults O.written O.faults F.texts F.faults B.faults B.journal_faults B.last_fault B.view input.new output.new folder.new result.bank)
         result.status }
     // The journal of a settled store is never bad.
-    ensures good { IsTrue B.tells → (before : Seq HistoryStep) → IsSettled journal_bytes (B.view bank) before → result.status ≢ 2 }
+    ensures good { IsTrue B.tells → (before : Seq HistoryStep) → IsSettled (run_terms (P.found patterns)) (B.view bank) before → result.status ≢ 2 }
     // A store whose journal is bad is refused, and only read.
-    ensures spared { IsTrue B.tells → (place : ℕ) → IsBadJournal journal_bytes ((B.view bank).content 0) place → IsRefused B.tells (B.view bank) (B.view result.bank)
+    ensures spared { IsTrue B.tells → (place : ℕ) → IsBadJournal (run_terms (P.found patterns)) ((B.view bank).content 0) place → IsRefused (run_terms (P.found patterns)) B.tells (B.view bank) (B.view result.bank)
         (seen I.left I.faults O.written O.faults F.texts F.faults B.faults B.journal_faults B.last_fault B.view input.old output.old folder.old bank)
         (seen I.left I.faults O.written O.faults F.texts F.faults B.faults B.journal_faults B.last_fault B.view input.new output.new folder.new result.bank)
         result.marks result.status }

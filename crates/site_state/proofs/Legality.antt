@@ -12,7 +12,9 @@ use Rattle.site_types.specs.declared.step.StepKind.{StepKind}
 use Rattle.site_types.specs.declared.step.StepKind.TheVariants.{Configured, Put, Accessed, Removed}
 use Rattle.site_history.specs.Terms.{Terms}
 use Rattle.site_history.specs.Site.{Fields, file_at}
+use Rattle.configuration.specs.ConfigurationSteps.{refusal_of}
 use Rattle.site_history.specs.Steps.{IsLegal}
+use Rattle.site_state.specs.Legal.{IsLegalSoFar}
 use Rattle.site_history.specs.PutSteps.{inode_for}
 use Rattle.site_state.proofs.Places.{FirstAt, first_at, none_passes, find-first, find-none, get_or-at, first-get_or}
 
@@ -88,6 +90,17 @@ pub takes_other : (fields : Fields) (files : List FileRec) (path : List ℕ) (in
 takes_other fields files path inode next same same_next e differs =
     let there = inode_next fields path inode (ap (λ (l : List FileRec). file_at path l) (sym same) ∙ file_at-none path files e) in
     (λ t. absurd (differs (eqb-true inode next t)), λ both. absurd (differs ((there.0 both).0 ∙ sym same_next)))
+
+-- what is legal is so before its texts are read
+pub legal_so_far : (terms : Terms) (fields : Fields) (moment : ℕ) (kind : StepKind) → IsLegal terms fields (record { moment = moment; kind = kind }) → IsLegalSoFar terms fields (record { moment = moment; kind = kind })
+legal_so_far terms fields moment (Configured texts) legal = (legal.0, legal.1, legal.2.no_file, legal.2.within)
+legal_so_far terms fields moment _ legal = legal
+
+-- and legal where no text that it configures the site by is refused
+pub then_legal : (terms : Terms) (fields : Fields) (moment : ℕ) (kind : StepKind) → ((texts : SiteTexts) → kind ≡ Configured texts → refusal_of texts ≡ None)
+    → IsLegalSoFar terms fields (record { moment = moment; kind = kind }) → IsLegal terms fields (record { moment = moment; kind = kind })
+then_legal terms fields moment (Configured texts) read so_far = (so_far.0, so_far.1, record { no_file = so_far.2; within = so_far.3; read = read texts refl })
+then_legal terms fields moment _ read so_far = so_far
 
 -- a step of a kind that is not served never may come
 pub not_served : (terms : Terms) (fields : Fields) (moment : ℕ) (kind : StepKind) → ((texts : SiteTexts) → kind ≡ Configured texts → ⊥)

@@ -3,8 +3,8 @@ use Rattle.session.proofs.OneRoundLaws.{made}
 use Rattle.session.proofs.round.one_round.Goals as goal
 
 pub returns-clause-round : goal.returns-clause-round
-returns-clause-round g c = λ told tells stage stands same_now request read.
-    made told g.B.Bank.view _ c.answer-reply.new.session.engine _ stage request c.answer-reply.result _ _ _ _ _ _ _ _ _ _ _ _ _ _ _ _ _ _ c.next_mark-mark.result
-    (λ t. g.met.B.Bank.sound _ (tells t)) (λ t. g.met.B.Bank.sound _ (tells t)) c.answer-reply.ensures.size (c.answer-reply.ensures.round told tells stage stands same_now request read)
+returns-clause-round g c = λ terms told tells stage stands same_now request read.
+    made terms told g.B.Bank.view _ c.answer-reply.new.session.engine _ stage request c.answer-reply.result _ _ _ _ _ _ _ _ _ _ _ _ _ _ _ _ _ _ c.next_mark-mark.result
+    (λ t. g.met.B.Bank.sound _ (tells t)) (λ t. g.met.B.Bank.sound _ (tells t)) (c.answer-reply.ensures.round terms told tells stage stands same_now request read)
     c.answer-reply.ensures.status c.answer-reply.ensures.counted c.answer-reply.ensures.journal_counted (ap (λ v. v.items) c.answer-reply.ensures.marks) c.next_mark-mark.ensures.answered
     (c.next_mark-mark.ensures.steps told) (λ t. c.next_mark-mark.ensures.moment (tells t)) c.tell.ensures.tells

@@ -8,9 +8,9 @@ use Rattle.session.proofs.run.converse.Goals as goal
 
 pub lines-init : goal.lines-init
 lines-init g c = record {
-  ran = λ told tells stage h at_moment. begun asks_of _ _ _ _ _ _ stage _ _ _ c.requires.marks c.requires.status c.requires.fresh.still_open h at_moment refl
+  ran = λ terms told tells stage h at_moment. begun terms asks_of _ _ _ _ _ stage _ _ _ c.requires.marks c.requires.status c.requires.fresh.still_open h at_moment refl
       (λ t. g.met.B.Bank.sound _ (tells t)) h.images;
-  passes = λ told tells stage h at_moment t. started _ _ (g.met.B.Bank.sound _ (tells t)) (λ image is. tt);
+  passes = λ terms told tells stage h at_moment t. started _ _ (g.met.B.Bank.sound _ (tells t)) (λ image is. tt);
   size = refl;
   patterns = refl;
   folder_texts = refl;
@@ -27,7 +27,7 @@ lines-smaller-in-Skipped g c = let t = c.in-Skipped.ensures.hears in falls_by _ 
 
 pub lines-preserved-in-Skipped : goal.lines-preserved-in-Skipped
 lines-preserved-in-Skipped g c = record {
-  ran = λ told tells stage h at_moment. goes_over asks_of _ _ _ _ _ _ _ _ stage (sym h.due ∙ c.requires.ready) _ _ _ (c.lines.invariant.ran told tells stage h at_moment) _ _ _ c.in-Skipped.ensures.hears;
+  ran = λ terms told tells stage h at_moment. goes_over terms asks_of _ _ _ _ _ _ _ stage (sym h.due ∙ c.requires.ready) _ _ _ (c.lines.invariant.ran terms told tells stage h at_moment) _ _ _ c.in-Skipped.ensures.hears;
   passes = c.lines.invariant.passes;
   size = c.lines.invariant.size;
   patterns = c.lines.invariant.patterns;
@@ -41,35 +41,35 @@ lines-preserved-in-Skipped g c = record {
 }
 
 pub returns-in-Some-clause-session : goal.returns-in-Some-clause-session
-returns-in-Some-clause-session g c = λ told tells stage h at_moment.
-    let r = c.lines.invariant.ran told tells stage h at_moment in
+returns-in-Some-clause-session g c = λ terms told tells stage h at_moment.
+    let r = c.lines.invariant.ran terms told tells stage h at_moment in
     let heard = c.in-Asks.ensures.hears in
-    let round = c.in-Some.ensures.round told tells (stage_after stage r.rounds) r.stands (sym r.at_moment) heard.0 heard.1 in
-    ends_at asks_of _ _ _ _ _ _ _ _ stage (sym h.due ∙ c.requires.ready) _ _ _ r _ _ _ heard.0 heard.2 _ _ _ _ _ _ _ _ _ _ _ _ round.0 _ c.lines.invariant.size refl c.in-Some.ensures.folder_texts round.1
+    let round = c.in-Some.ensures.round terms told tells (stage_after stage r.rounds) r.stands (sym r.at_moment) heard.0 heard.1 in
+    ends_at terms asks_of _ _ _ _ _ _ _ stage (sym h.due ∙ c.requires.ready) _ _ _ r _ _ _ heard.0 heard.2 _ _ _ _ _ _ _ _ _ _ _ _ round.0 refl c.in-Some.ensures.folder_texts round.1
     c.requires.fresh.nothing_held c.requires.fresh.still_open c.lines.invariant.sink_later c.in-Some.ending round.1.tells_answer
 
 pub returns-in-Some-clause-passes : goal.returns-in-Some-clause-passes
-returns-in-Some-clause-passes g c = λ told tells stage h at_moment t.
-    let r = c.lines.invariant.ran told tells stage h at_moment in
+returns-in-Some-clause-passes g c = λ terms told tells stage h at_moment t.
+    let r = c.lines.invariant.ran terms told tells stage h at_moment in
     let heard = c.in-Asks.ensures.hears in
-    let round = c.in-Some.ensures.round told tells (stage_after stage r.rounds) r.stands (sym r.at_moment) heard.0 heard.1 in
-    joined _ _ _ _ (c.lines.invariant.passes told tells stage h at_moment t) (weakened _ _ _ _ (round.1.meanwhile t) (λ image is. tt))
+    let round = c.in-Some.ensures.round terms told tells (stage_after stage r.rounds) r.stands (sym r.at_moment) heard.0 heard.1 in
+    joined _ _ _ _ (c.lines.invariant.passes terms told tells stage h at_moment t) (weakened _ _ _ _ (round.1.meanwhile t) (λ image is. tt))
 
 pub lines-smaller : goal.lines-smaller
 lines-smaller g c = let t = c.in-Asks.ensures.hears.2 in falls_by _ _ _ _ _ t.moved t.some
 
 pub lines-preserved : goal.lines-preserved
 lines-preserved g c = record {
-  ran = λ told tells stage h at_moment.
-      let r = c.lines.invariant.ran told tells stage h at_moment in
+  ran = λ terms told tells stage h at_moment.
+      let r = c.lines.invariant.ran terms told tells stage h at_moment in
       let heard = c.in-Asks.ensures.hears in
-      let round = c.in-None.ensures.round told tells (stage_after stage r.rounds) r.stands (sym r.at_moment) heard.0 heard.1 in
-      goes_on asks_of _ _ _ _ _ _ _ _ stage (sym h.due ∙ c.requires.ready) _ _ _ r _ _ _ heard.0 heard.2 _ _ _ _ _ _ _ _ _ _ _ _ round.0 _ c.lines.invariant.size refl c.in-None.ensures.folder_texts round.1 _ round.2 round.1.tells_answer;
-  passes = λ told tells stage h at_moment t.
-      let r = c.lines.invariant.ran told tells stage h at_moment in
+      let round = c.in-None.ensures.round terms told tells (stage_after stage r.rounds) r.stands (sym r.at_moment) heard.0 heard.1 in
+      goes_on terms asks_of _ _ _ _ _ _ _ stage (sym h.due ∙ c.requires.ready) _ _ _ r _ _ _ heard.0 heard.2 _ _ _ _ _ _ _ _ _ _ _ _ round.0 refl c.in-None.ensures.folder_texts round.1 _ round.2 round.1.tells_answer;
+  passes = λ terms told tells stage h at_moment t.
+      let r = c.lines.invariant.ran terms told tells stage h at_moment in
       let heard = c.in-Asks.ensures.hears in
-      let round = c.in-None.ensures.round told tells (stage_after stage r.rounds) r.stands (sym r.at_moment) heard.0 heard.1 in
-      joined _ _ _ _ (c.lines.invariant.passes told tells stage h at_moment t) (weakened _ _ _ _ (round.1.meanwhile t) (λ image is. tt));
+      let round = c.in-None.ensures.round terms told tells (stage_after stage r.rounds) r.stands (sym r.at_moment) heard.0 heard.1 in
+      joined _ _ _ _ (c.lines.invariant.passes terms told tells stage h at_moment t) (weakened _ _ _ _ (round.1.meanwhile t) (λ image is. tt));
   size = c.in-None.ensures.size ∙ c.lines.invariant.size;
   patterns = c.in-None.ensures.patterns ∙ c.lines.invariant.patterns;
   folder_texts = c.one_round.ensures.folder_texts ∙ c.lines.invariant.folder_texts;
@@ -82,5 +82,5 @@ lines-preserved g c = record {
 }
 
 pub returns-in-Stopped-clause-session : goal.returns-in-Stopped-clause-session
-returns-in-Stopped-clause-session g c = λ told tells stage h at_moment.
-    stopped_at asks_of _ _ _ _ _ _ _ _ stage (sym h.due ∙ c.requires.ready) _ _ _ (c.lines.invariant.ran told tells stage h at_moment) _ _ _ c.requires.fresh.nothing_held c.requires.fresh.still_open c.lines.invariant.source_later c.in-Stopped.ending c.in-Stopped.ensures.hears
+returns-in-Stopped-clause-session g c = λ terms told tells stage h at_moment.
+    stopped_at terms asks_of _ _ _ _ _ _ _ stage (sym h.due ∙ c.requires.ready) _ _ _ (c.lines.invariant.ran terms told tells stage h at_moment) _ _ _ c.requires.fresh.nothing_held c.requires.fresh.still_open c.lines.invariant.source_later c.in-Stopped.ending c.in-Stopped.ensures.hears
