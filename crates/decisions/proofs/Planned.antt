@@ -22,7 +22,10 @@ use Rattle.site_history.specs.Site.{Fields, Site, file_at, held_runs, bytes_of, 
 use Rattle.site_history.specs.Steps.{HistoryStep}
 use Rattle.site_history.specs.PutSteps.{inode_for}
 use Rattle.site_history.specs.Kept.{IsKept, HaveAllBytes}
-use Rattle.site_history.specs.Answers.{Answer, put_rule, put_made, configure_refusal, answer_to}
+use Rattle.site_history.specs.Answers.{answer_to}
+use Rattle.site_history.specs.ConfigureAnswers.{configure_refusal}
+use Rattle.site_history.specs.FileAnswers.{put_rule, put_made}
+use Rattle.site_history.specs.Replies.{Answer}
 use Rattle.site_history.proofs.KeptLaws.{IsFileOf, found-file}
 use Rattle.site_history.proofs.Accesses.{read_length}
 use Rattle.site_history.proofs.Puts.{admitted}

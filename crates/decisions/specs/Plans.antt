@@ -11,7 +11,8 @@ use Rattle.site_history.specs.Terms.{Terms}
 use Rattle.site_history.specs.Site.{Site, bytes_of}
 use Rattle.site_history.specs.Steps.{HistoryStep}
 use Rattle.site_history.specs.Kept.{IsKept, HaveAllBytes}
-use Rattle.site_history.specs.Answers.{Answer, answer_to}
+use Rattle.site_history.specs.Answers.{answer_to}
+use Rattle.site_history.specs.Replies.{Answer}
 use Rattle.site_state.specs.declared.state.SiteState.{SiteState}
 use Rattle.site_state.specs.Keeps.{Keeps}
 use Rattle.decisions.specs.declared.plan.Plan.{Plan}

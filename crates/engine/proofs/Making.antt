@@ -18,7 +18,8 @@ use Rattle.site_history.specs.Site.{Fields, held_runs}
 use Rattle.site_history.specs.Steps.{HistoryStep, IsLegal, step_extents}
 use Rattle.site_history.specs.Histories.{after, journal_length}
 use Rattle.site_history.specs.Worlds.{World, at}
-use Rattle.site_history.specs.Answers.{Answer, answer_to}
+use Rattle.site_history.specs.Answers.{answer_to}
+use Rattle.site_history.specs.Replies.{Answer}
 use Rattle.site_history.specs.Images.{extents, Reads, ReadsAs}
 use Rattle.site_history.specs.Extents.{extents_over, AllStand}
 use Rattle.site_history.specs.Pinned.{StandInAll, IsPinned, IsClearOf, in_blocks_of}

@@ -15,7 +15,10 @@ use Rattle.configuration.specs.ConfigurationSteps.{refusal_of, are_within}
 use Rattle.site_history.specs.Terms.{Terms}
 use Rattle.site_history.specs.Site.{Fields, FileBytes, Site, file_at}
 use Rattle.site_history.specs.Steps.{HistoryStep}
-use Rattle.site_history.specs.Answers.{Answer, answer_to, put_rule, put_answer_by, read_answer_of, remove_answer_of, conf_refused, has_files, configure_refusal, configure_answer, configure_answer_by}
+use Rattle.site_history.specs.Answers.{answer_to}
+use Rattle.site_history.specs.ConfigureAnswers.{conf_refused, has_files, configure_refusal, configure_answer, configure_answer_by}
+use Rattle.site_history.specs.FileAnswers.{put_rule, put_answer_by, read_answer_of, remove_answer_of}
+use Rattle.site_history.specs.Replies.{Answer}
 use Rattle.site_history.specs.Histories.{after}
 use Rattle.site_history.specs.Worlds.{World, Turn, EventTurn, EventTurnBy, Goes, course_of, answer_in, has_room, moment_of, clock_from, IsReply}
 use Rattle.session.specs.Rounds.{cause_of, faults_of, folder_faults_of}

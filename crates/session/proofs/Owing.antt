@@ -12,7 +12,7 @@ use Rattle.site_events.specs.declared.reply.Reply.{Reply}
 use Rattle.site_events.specs.declared.reply.Reply.TheVariants.{BankFault, NoMemory}
 use Rattle.site_history.specs.Terms.{Terms}
 use Rattle.site_history.specs.Steps.{HistoryStep}
-use Rattle.site_history.specs.Answers.{Answer}
+use Rattle.site_history.specs.Replies.{Answer}
 use Rattle.site_history.specs.Worlds.{World, Turn, TurnBy, Owes, Stays, answer_in, moment_of}
 use Rattle.session.specs.Asking.{Request}
 use Rattle.session.specs.Rounds.{Stage, Round, IsEvent, IsRoundOf, IsRun, stage_after, journal_faults_of, journal_faults_in}

@@ -12,7 +12,7 @@ use Rattle.site_events.specs.declared.event.Event.TheVariants.{Configure as Conf
 use Rattle.site_events.specs.declared.reply.Reply.{Reply}
 use Rattle.site_history.specs.Terms.{Terms}
 use Rattle.site_history.specs.Steps.{HistoryStep}
-use Rattle.site_history.specs.Answers.{Answer}
+use Rattle.site_history.specs.Replies.{Answer}
 use Rattle.site_history.specs.Worlds.{World, with_step, answer_in, moment_of, clock_from, TurnBy, Course, Goes, Stays, Owes, course_of, EventTurnBy}
 use Rattle.site_history.specs.Images.{Reads, ReadsAs}
 use Rattle.session.specs.Asking.{Request}

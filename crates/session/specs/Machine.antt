@@ -12,7 +12,7 @@ use Rattle.desk.specs.Texts.{text_of}
 use Rattle.configuration.specs.FolderTexts.{texts_in}
 use Rattle.site_types.specs.Texts.{no_texts}
 use Rattle.site_history.specs.Terms.{Terms}
-use Rattle.site_history.specs.Answers.{Answer}
+use Rattle.site_history.specs.Replies.{Answer}
 use Rattle.site_history.specs.Worlds.{World, at, moment_of, answer_in, with_step, IsReply}
 use Rattle.session.specs.Asking.{Request}
 use Rattle.session.specs.Rounds.{Stage, Round}

@@ -7,7 +7,7 @@ use Rattle.site_types.specs.declared.step.StepKind.TheVariants.{Accessed, Remove
 use Rattle.site_history.specs.Terms.{Terms}
 use Rattle.site_history.specs.Site.{Fields, Site, bytes_of}
 use Rattle.site_history.specs.Steps.{IsLegal, HasBytes}
-use Rattle.site_history.specs.Answers.{bare_step}
+use Rattle.site_history.specs.Replies.{bare_step}
 use Rattle.site_history.specs.Kept.{HaveAllBytes}
 use Rattle.site_history.proofs.KeptLaws.{IsFileOf, file-bytes}
 use Rattle.site_history.proofs.Finds.{StandsAt}

@@ -9,7 +9,9 @@ use Rattle.site_events.specs.declared.reply.Rule.{Rule}
 use Rattle.site_history.specs.Terms.{Terms}
 use Rattle.site_history.specs.Site.{Site, file_at}
 use Rattle.site_history.specs.Steps.{HistoryStep, IsLegal, HasBytes}
-use Rattle.site_history.specs.Answers.{put_rule, put_answer_by, read_answer_of, remove_answer_of, configure_refusal, configure_answer_by, answer_to}
+use Rattle.site_history.specs.Answers.{answer_to}
+use Rattle.site_history.specs.ConfigureAnswers.{configure_refusal, configure_answer_by}
+use Rattle.site_history.specs.FileAnswers.{put_rule, put_answer_by, read_answer_of, remove_answer_of}
 use Rattle.site_history.proofs.KeptLaws.{found-file}
 use Rattle.site_history.specs.Kept.{IsKept}
 use Rattle.site_history.proofs.Puts.{put_legal}

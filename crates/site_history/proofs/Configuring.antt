@@ -22,7 +22,8 @@ use Rattle.site_history.specs.Terms.{Terms}
 use Rattle.site_history.specs.Site.{Fields, Site, held_runs, cache_blocks}
 use Rattle.site_history.specs.Steps.{IsLegal, HasBytes}
 use Rattle.site_history.specs.ConfiguredSteps.{IsLegalConfiguration, configured_effect}
-use Rattle.site_history.specs.Answers.{bare_step, conf_refused, has_files, configure_refusal}
+use Rattle.site_history.specs.Replies.{bare_step}
+use Rattle.site_history.specs.ConfigureAnswers.{conf_refused, has_files, configure_refusal}
 use Rattle.site_history.proofs.StepRanges.{configured-range}
 
 -- the rules, by what they test

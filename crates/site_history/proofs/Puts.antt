@@ -14,7 +14,7 @@ use Rattle.site_history.specs.Terms.{Terms}
 use Rattle.site_history.specs.Site.{Fields, Site, file_at, held_runs, cache_blocks}
 use Rattle.site_history.specs.Steps.{IsLegal, HasBytes}
 use Rattle.site_history.specs.PutSteps.{IsLegalPut, inode_for}
-use Rattle.site_history.specs.Answers.{put_rule, put_for, put_made, put_step, is_full, lacks_space}
+use Rattle.site_history.specs.FileAnswers.{put_rule, put_for, put_made, put_step, is_full, lacks_space}
 use Rattle.site_history.proofs.RunRanges.{lowest_runs-few, maximal-small}
 use Rattle.site_history.proofs.StepRanges.{put_in_range}
 use Rattle.site_history.proofs.KeptLaws.{found-file}

@@ -18,7 +18,8 @@ use Rattle.configuration.proofs.Laws.{within-all, wrong-refused, refused-wrong}
 use Rattle.site_history.specs.Terms.{Terms}
 use Rattle.site_history.specs.Steps.{HistoryStep}
 use Rattle.site_history.specs.Histories.{after}
-use Rattle.site_history.specs.Answers.{Answer, bare_step, conf_refused, has_files, configure_refusal, configure_answer_by, TellsFirstWrong}
+use Rattle.site_history.specs.Replies.{Answer, bare_step}
+use Rattle.site_history.specs.ConfigureAnswers.{conf_refused, has_files, configure_refusal, configure_answer_by, TellsFirstWrong}
 use Rattle.site_history.specs.Worlds.{World, has_room, answer_in, moment_of, clock_from, IsReply, Course, Goes, course_of, TurnBy, Turn, IsServedOver, TellsConfiguration, EventTurnBy, EventTurn}
 use Rattle.site_history.proofs.Configuring.{configure-wrong}
 

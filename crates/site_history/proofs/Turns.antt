@@ -23,7 +23,10 @@ use Rattle.site_history.specs.Site.{Site, file_at, bytes_of}
 use Rattle.site_history.specs.Steps.{HistoryStep, IsLegal, effect}
 use Rattle.site_history.specs.PutSteps.{inode_for}
 use Rattle.site_history.specs.Histories.{after, journal_length}
-use Rattle.site_history.specs.Answers.{Answer, refused, put_rule, put_step, put_answer_by, read_answer_of, remove_answer_of, bare_step, configure_refusal, configure_answer_by, answer_to}
+use Rattle.site_history.specs.Answers.{answer_to}
+use Rattle.site_history.specs.ConfigureAnswers.{configure_refusal, configure_answer_by}
+use Rattle.site_history.specs.FileAnswers.{put_rule, put_step, put_answer_by, read_answer_of, remove_answer_of}
+use Rattle.site_history.specs.Replies.{Answer, refused, bare_step}
 use Rattle.site_history.specs.Worlds.{World, at, has_room, answer_in, with_step, IsReply, Course, Goes, Stays, Owes, course_of, TurnBy, Turn}
 use Rattle.site_history.proofs.HistoryLaws.{after-push}
 

@@ -9,6 +9,9 @@ pub mod ConfiguredSteps
 pub mod Steps
 pub mod Kept
 pub mod Histories
+pub mod Replies
+pub mod FileAnswers
+pub mod ConfigureAnswers
 pub mod Answers
 pub mod Worlds
 pub mod Images

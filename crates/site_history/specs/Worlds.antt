@@ -11,7 +11,9 @@ use Rattle.site_history.specs.Site.{Site}
 use Rattle.site_history.specs.Steps.{HistoryStep}
 use Rattle.site_history.specs.Histories.{after, IsHistory, journal_length}
 use Rattle.site_history.specs.Journals.{HoldsHistory}
-use Rattle.site_history.specs.Answers.{Answer, answer_to, TellsFirstWrong}
+use Rattle.site_history.specs.Answers.{answer_to}
+use Rattle.site_history.specs.ConfigureAnswers.{TellsFirstWrong}
+use Rattle.site_history.specs.Replies.{Answer}
 
 pub record World : Type 0 where
   pub history : List HistoryStep

@@ -8,7 +8,8 @@ ghost use Rattle.site_history.specs.PutSteps.{inode_for};
 ghost use Rattle.site_events.specs.declared.reply.Reply.TheVariants.{Refused};
 ghost use Rattle.configuration.specs.ConfigurationRules.{AreWithin};
 ghost use Rattle.configuration.specs.ConfigurationSteps.{refusal_of};
-ghost use Rattle.site_history.specs.Answers.{put_rule, is_full, lacks_space, configure_refusal, conf_refused};
+ghost use Rattle.site_history.specs.FileAnswers.{put_rule, is_full, lacks_space};
+ghost use Rattle.site_history.specs.ConfigureAnswers.{configure_refusal, conf_refused};
 ghost use Rattle.site_state.specs.Keeps.{Keeps};
 
 use crate::legal::{FILE_MAX, FILES_MAX, INODE_MAX};

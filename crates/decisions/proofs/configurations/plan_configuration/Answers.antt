@@ -4,7 +4,7 @@ use Rattle.configuration.specs.declared.read.ConfigurationError.{ConfigurationEr
 use Rattle.configuration.specs.declared.read.FileRefusal.{FileRefusal}
 use Rattle.configuration.specs.ConfigurationSteps.{refusal_of, TellsRefusal}
 use Rattle.site_history.specs.Histories.{after}
-use Rattle.site_history.specs.Answers.{conf_refused}
+use Rattle.site_history.specs.ConfigureAnswers.{conf_refused}
 use Rattle.site_history.proofs.StepRanges.{configured-range, configured-short}
 use Rattle.site_history.proofs.Turns.{configure-refused}
 use Rattle.decisions.proofs.Planned.{configuration_planned}

@@ -1,0 +1,68 @@
+-- Puts, reads and removals: what each is answered, and the step that it makes.
+use Rattle.std.specs.Prelude.{ℕ, ◌&&◌, ◌||◌, nat_le, nat_lt, Bool, not, if◌then◌else◌, Option, Some, None, is_none, List, length, take}
+use Rattle.site_events.specs.declared.reply.Reply.TheVariants.{Stored, Done, Bytes}
+use Rattle.site_events.specs.declared.reply.Rule.{Rule}
+use Rattle.site_events.specs.declared.reply.Rule.TheVariants.{NoFile, BadPath, BadAttribute, TooLarge, TooMany, NoSpace}
+use Rattle.site_types.specs.declared.file.FileRec.{FileRec}
+use Rattle.site_types.specs.declared.step.PutStep.{PutStep}
+use Rattle.site_types.specs.declared.step.Step.{Step}
+use Rattle.site_types.specs.declared.step.StepKind.TheVariants.{Put, Accessed, Removed}
+use Rattle.base.specs.Paths.{is_legal_path, is_legal_name}
+use Rattle.cache_space.specs.Blocks.{blocks_for, free_blocks, lowest_runs}
+use Rattle.site_history.specs.Site.{Fields, FileBytes, file_at, held_runs, bytes_of, cache_blocks}
+use Rattle.site_history.specs.PutSteps.{inode_for}
+use Rattle.site_history.specs.Steps.{HistoryStep}
+use Rattle.site_history.specs.Replies.{Answer, refused, bare_step}
+
+-- what a put stores: it takes the lowest free blocks
+abbrev pub put_for : Fields → List ℕ → List ℕ → List ℕ → ℕ → PutStep
+put_for fields path owner group size = record {
+  inode = inode_for fields path;
+  path = path;
+  owner = owner;
+  group = group;
+  length = size;
+  runs = lowest_runs (cache_blocks fields) (held_runs fields.files) (blocks_for size);
+}
+
+-- its step
+abbrev pub put_made : Fields → ℕ → List ℕ → List ℕ → List ℕ → ℕ → Step
+put_made fields moment path owner group size = record { moment = moment; kind = Put (put_for fields path owner group size) }
+
+abbrev pub put_step : Fields → ℕ → List ℕ → List ℕ → List ℕ → List ℕ → HistoryStep
+put_step fields moment path owner group bytes = record { step = put_made fields moment path owner group (length bytes); bytes = bytes }
+
+-- a further file does not fit: 65,536 files are there, or the inode numbers are used up
+abbrev pub is_full : Fields → Bool
+is_full fields = nat_le 65536 (length fields.files) || nat_lt 4294967294 fields.next_inode
+
+-- fewer blocks are free than so many bytes need
+abbrev pub lacks_space : Fields → ℕ → Bool
+lacks_space fields size = nat_lt (length (free_blocks (cache_blocks fields) (held_runs fields.files))) (blocks_for size)
+
+-- The first rule that refuses a put of so many bytes. The blocks of a file that is replaced are not free yet.
+abbrev pub put_rule : Fields → List ℕ → List ℕ → List ℕ → ℕ → Option Rule
+put_rule fields path owner group size =
+    if not (is_legal_path path) then Some BadPath else
+    if not (is_legal_name owner && is_legal_name group) then Some BadAttribute else
+    if nat_lt 16777216 size then Some TooLarge else
+    if is_none (file_at path fields.files) && is_full fields then Some TooMany else
+    if lacks_space fields size then Some NoSpace else None
+
+abbrev pub put_answer_by : Option Rule → Fields → ℕ → List ℕ → List ℕ → List ℕ → List ℕ → Answer
+put_answer_by (Some rule) fields moment path owner group bytes = refused rule
+put_answer_by None fields moment path owner group bytes =
+    record { reply = Stored (inode_for fields path) (is_none (file_at path fields.files)); step = Some (put_step fields moment path owner group bytes) }
+
+abbrev pub put_answer : Fields → ℕ → List ℕ → List ℕ → List ℕ → List ℕ → Answer
+put_answer fields moment path owner group bytes = put_answer_by (put_rule fields path owner group (length bytes)) fields moment path owner group bytes
+
+-- the first bytes of a file, which is whole; it is accessed
+abbrev pub read_answer_of : Option FileRec → List FileBytes → ℕ → ℕ → Answer
+read_answer_of None contents moment upto = refused NoFile
+read_answer_of (Some file) contents moment upto =
+    record { reply = Bytes (take upto (bytes_of contents file.inode)); step = Some (bare_step moment (Accessed file.inode)) }
+
+abbrev pub remove_answer_of : Option FileRec → ℕ → Answer
+remove_answer_of None moment = refused NoFile
+remove_answer_of (Some file) moment = record { reply = Done file.inode; step = Some (bare_step moment (Removed file.inode)) }
