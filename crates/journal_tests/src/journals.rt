@@ -182,6 +182,6 @@ fn reads_in_large_pieces(rt: HostRuntime) -> Result<(), Fail> {
     let before = made(&bank, BankCall::Read);
     let answer = reopened(&rt, rt.alloc(), &mut bank, 4_000_000)?;
     assert_eq!(rt; answer.len(), 2 + 12 * 7);
-    assert_eq!(rt; made(&bank, BankCall::Read) - before, 3);
+    assert_eq!(rt; made(&bank, BankCall::Read).checked_sub(before), Some(3));
     Ok(())
 }
