@@ -3,7 +3,6 @@ use Rattle.bank.specs.Content.{Content}
 use Rattle.bank.proofs.Readings.{nothing_read, read_then_read}
 use Rattle.journal.specs.Readers.{IsFound, GoesOn}
 use Rattle.journal.specs.declared.reader.Found.{Found}
-use Rattle.journal.specs.declared.reader.Found.TheVariants.{Record, End, BadLength}
 use Rattle.site_history.specs.Histories.{after}
 use Rattle.site_history.specs.Journals.{IsBadJournal}
 use Rattle.site_history.proofs.KeptLaws.{after_kept}

@@ -32,42 +32,42 @@ returns-in-Nothing-clause-named g c = subst (λ (work : Work). NamesNoFault work
 pub store-requires : goal.store-requires
 store-requires g c = subst (λ (runs : List Run). AreMaximal runs) (sym c.runs_of.ensures) c.requires.maximal
 
-pub returns-in_err-store-clause-wrote : goal.returns-in_err-store-clause-wrote
-returns-in_err-store-clause-wrote g c = λ told.
+pub returns-in_err-store-in-Store-clause-wrote : goal.returns-in_err-store-in-Store-clause-wrote
+returns-in_err-store-in-Store-clause-wrote g c = λ told.
     subst (λ (runs : List Run). WroteInside 1 (in_blocks_of runs) (g.B.Bank.view c.args.bank.now) (g.B.Bank.view c.store.new.bank)) c.runs_of.ensures (c.store.ensures.wrote told)
 
-pub returns-in-Store-clause-wrote : goal.returns-in-Store-clause-wrote
-returns-in-Store-clause-wrote g c = λ told.
+pub returns-in_ok-store-in-Store-clause-wrote : goal.returns-in_ok-store-in-Store-clause-wrote
+returns-in_ok-store-in-Store-clause-wrote g c = λ told.
     subst (λ (runs : List Run). WroteInside 1 (in_blocks_of runs) (g.B.Bank.view c.args.bank.now) (g.B.Bank.view c.store.new.bank)) c.runs_of.ensures (c.store.ensures.wrote told)
 
-pub returns-in-Store-clause-stored : goal.returns-in-Store-clause-stored
-returns-in-Store-clause-stored g c = λ told.
+pub returns-in_ok-store-in-Store-clause-stored : goal.returns-in_ok-store-in-Store-clause-stored
+returns-in_ok-store-in-Store-clause-stored g c = λ told.
     subst (λ (work : Work). StandInAll (g.B.Bank.view c.store.new.bank) (extents_over (put_runs c.args.step.now) (stored_bytes work))) (sym c.in-Store.is)
     (subst (λ (runs : List Run). StandInAll (g.B.Bank.view c.store.new.bank) (extents_over runs c.in-Store.bytes)) c.runs_of.ensures
-    (subst (λ (bytes : List ℕ). StandInAll (g.B.Bank.view c.store.new.bank) (extents_over c.runs_of.result.now bytes)) c.as_slice.ensures (c.in_ok-store.ensures.stored told)))
+    (subst (λ (bytes : List ℕ). StandInAll (g.B.Bank.view c.store.new.bank) (extents_over c.runs_of.result.now bytes)) c.as_slice.ensures (c.in_ok-store-in-Store.ensures.stored told)))
 
-pub returns-in-Store-clause-gives : goal.returns-in-Store-clause-gives
-returns-in-Store-clause-gives g c = λ told tells site defined given stand.
+pub returns-in_ok-store-in-Store-clause-gives : goal.returns-in_ok-store-in-Store-clause-gives
+returns-in_ok-store-in-Store-clause-gives g c = λ told tells site defined given stand.
     is_reply told defined c.in-Store.reply (sym (subst (λ (work : Work). Gives site work defined) c.in-Store.is given))
 
-pub returns-in-Store-clause-named : goal.returns-in-Store-clause-named
-returns-in-Store-clause-named g c = subst (λ (work : Work). NamesNoFault work) c.in-Store.is c.requires.named
+pub returns-in_ok-store-in-Store-clause-named : goal.returns-in_ok-store-in-Store-clause-named
+returns-in_ok-store-in-Store-clause-named g c = subst (λ (work : Work). NamesNoFault work) c.in-Store.is c.requires.named
 
-pub returns-in_err-bytes-clause-wrote : goal.returns-in_err-bytes-clause-wrote
-returns-in_err-bytes-clause-wrote g c = λ told. read_inside (put_runs c.args.step.now) _ _ (c.load_all.ensures.unchanged told)
+pub returns-in_err-bytes-in-Load-clause-wrote : goal.returns-in_err-bytes-in-Load-clause-wrote
+returns-in_err-bytes-in-Load-clause-wrote g c = λ told. read_inside (put_runs c.args.step.now) _ _ (c.load_all.ensures.unchanged told)
 
-pub returns-in-Load-clause-wrote : goal.returns-in-Load-clause-wrote
-returns-in-Load-clause-wrote g c = λ told. read_inside (put_runs c.args.step.now) _ _ (c.load_all.ensures.unchanged told)
+pub returns-in_ok-bytes-in-Load-clause-wrote : goal.returns-in_ok-bytes-in-Load-clause-wrote
+returns-in_ok-bytes-in-Load-clause-wrote g c = λ told. read_inside (put_runs c.args.step.now) _ _ (c.load_all.ensures.unchanged told)
 
-pub returns-in-Load-clause-stored : goal.returns-in-Load-clause-stored
-returns-in-Load-clause-stored g c = λ told.
+pub returns-in_ok-bytes-in-Load-clause-stored : goal.returns-in_ok-bytes-in-Load-clause-stored
+returns-in_ok-bytes-in-Load-clause-stored g c = λ told.
     subst (λ (work : Work). StandInAll (g.B.Bank.view c.load_all.new.bank) (extents_over (put_runs c.args.step.now) (stored_bytes work))) (sym c.in-Load.is)
     (nothing_stands (g.B.Bank.view c.load_all.new.bank) (put_runs c.args.step.now))
 
-pub returns-in-Load-clause-gives : goal.returns-in-Load-clause-gives
-returns-in-Load-clause-gives g c = λ told tells site defined given stand.
+pub returns-in_ok-bytes-in-Load-clause-gives : goal.returns-in_ok-bytes-in-Load-clause-gives
+returns-in_ok-bytes-in-Load-clause-gives g c = λ told tells site defined given stand.
     load_gives told (g.B.Bank.view c.args.bank.now).content site c.in-Load.runs c.in-Load.buffer c.from_vec.result defined (subst (λ (work : Work). Gives site work defined) c.in-Load.is given) stand
-    (ap length c.from_vec.ensures ∙ c.in_ok-bytes.ensures.length)
+    (ap length c.from_vec.ensures ∙ c.in_ok-bytes-in-Load.ensures.length)
     (λ t whole room enough there. c.from_vec.ensures
-    ∙ c.in_ok-bytes.ensures.bytes (tells t) whole (omega (arith, room, ap blocks_in c.as_slice-in-Load.ensures)) enough
+    ∙ c.in_ok-bytes-in-Load.ensures.bytes (tells t) whole (omega (arith, room, ap blocks_in c.as_slice-in-Load.ensures)) enough
     (subst (λ (runs : List Run). AllStand (g.B.Bank.view c.args.bank.now).content (extents_over runs whole)) (sym c.as_slice-in-Load.ensures) there))

@@ -14,9 +14,9 @@ use Rattle.engine.proofs.kept.Engine.perform.Goals as goal
 pub returns-in-Answer-clause-turn : goal.returns-in-Answer-clause-turn
 returns-in-Answer-clause-turn g c = λ terms told tells history stands event of. (
   at history c.args.self.now.clock,
-  answer-turn terms told history event c.args.self.now.clock _ c.in-Answer.field-0
+  answer-turn terms told history event c.args.self.now.clock _ c.in-Answer.reply
       (subst (λ (p : Plan). IsPlanOf (after terms history) (answer_to terms (after terms history) c.args.self.now.clock event) p) c.in-Answer.is of)
-      (course_goes c.in-Answer.field-0 _ (subst (λ (p : Plan). IsPerformable c.args.self.now.site p) c.in-Answer.is c.requires.performable)),
+      (course_goes c.in-Answer.reply _ (subst (λ (p : Plan). IsPerformable c.args.self.now.site p) c.in-Answer.is c.requires.performable)),
   stays_here terms told g.B.Bank.view c.args.self.now _ (at history c.args.self.now.clock) stands (λ fields keeps. keeps) refl refl refl refl (λ t. nothing_read _ (g.met.B.Bank.sound _ (tells t))),
 )
 
@@ -26,11 +26,11 @@ returns-in-Answer-clause-served g c =
       causes = record {
         later = omega arith;
         journal_later = omega arith;
-        fault = λ e. absurd (no_fault c.in-Answer.field-0 named e);
-        journal_fault = λ e zero. absurd (no_fault c.in-Answer.field-0 named e);
+        fault = λ e. absurd (no_fault c.in-Answer.reply named e);
+        journal_fault = λ e zero. absurd (no_fault c.in-Answer.reply named e);
       };
       ready = λ other. c.requires.ready;
-      journal = λ terms content. no_bad_journal terms content c.in-Answer.field-0 named;
+      journal = λ terms content. no_bad_journal terms content c.in-Answer.reply named;
       size = refl;
       patterns = refl;
       moment = λ t. omega arith;
