@@ -24,7 +24,7 @@ read_prepared terms fields payload step Ready None form only refused ready = λ 
 read_prepared terms fields payload step Ready (Some prepared) form only legal ready =
     (subst (λ (x : Step). IsLegal terms fields x) (sym ready.0) legal, form ∙ ap written (sym ready.0))
 
-pub read_result : (terms : Terms) (fields : Fields) (payload : List ℕ) (step : Step) (Ready : Prepared → Type 0) (result : Result (Option Prepared) AllocError) → payload ≡ written step
+pub read_result : {E : Type 0} (terms : Terms) (fields : Fields) (payload : List ℕ) (step : Step) (Ready : Prepared → Type 0) (result : Result (Option Prepared) E) → payload ≡ written step
     → ((s : Step) → InRange s → payload ≡ written s → s ≡ step) → IfOk result (λ made. MatchOption made (IsLegal terms fields step → ⊥) (λ _. IsLegal terms fields step))
     → IfOk result (λ made. IfSome made (λ prepared. (prepared.step ≡ step) × Ready prepared)) → IfOk result (IsRead terms fields payload)
 read_result terms fields payload step Ready (Ok made) form only legal ready = read_prepared terms fields payload step Ready made form only legal ready
