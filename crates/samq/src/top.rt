@@ -6,7 +6,7 @@ ghost use Rattle.site_history.specs.Steps.{HistoryStep};
 ghost use Rattle.site_history.specs.Images.{IsSettled};
 ghost use Rattle.session.specs.Session.{seen};
 ghost use Rattle.site_history.specs.Journals.{IsBadJournal};
-ghost use Rattle.session.specs.Outcomes.{journal_bytes, IsRefused, IsOutcome, HasStatus};
+ghost use Rattle.session.specs.Outcomes.{run_terms, IsRefused, IsOutcome, HasStatus};
 
 use bank::Bank;
 use base::List;
@@ -44,21 +44,21 @@ pub fn samq<B: Bank, C: Clock, F: Folder, P: Patterns, I: Source, O: Sink>(
     // Over a store that is settled for a history, or over any store that tells nothing: what was read, asked, answered and
     // written, what ended the run, and what each crash meanwhile may leave.
     ensures outcome { is_run (map string_bytes words.now) ≡ true → (told : Bool) → (IsTrue told → IsTrue B.tells) → (before : Seq HistoryStep)
-        → (IsTrue told → IsSettled journal_bytes (B.view bank) before)
-        → IsOutcome told B.tells 4294967296 (B.view bank) (B.view result.bank)
+        → (IsTrue told → IsSettled (run_terms (P.found patterns)) (B.view bank) before)
+        → IsOutcome (run_terms (P.found patterns)) told B.tells 4294967296 (B.view bank) (B.view result.bank)
         (seen I.left I.faults O.written O.faults F.texts F.faults B.faults B.journal_faults B.last_fault B.view input.old output.old folder.old bank)
         (seen I.left I.faults O.written O.faults F.texts F.faults B.faults B.journal_faults B.last_fault B.view input.new output.new folder.new result.bank)
         before result.marks result.status }
     // The causes of the status, over any store, and what the statuses 0, 2 and 7 mean.
-    ensures status { is_run (map string_bytes words.now) ≡ true → HasStatus B.tells ((B.view bank).content 0) 4294967296
+    ensures status { is_run (map string_bytes words.now) ≡ true → HasStatus (run_terms (P.found patterns)) B.tells ((B.view bank).content 0) 4294967296
         (seen I.left I.faults O.written O.faults F.texts F.faults B.faults B.journal_faults B.last_fault B.view input.old output.old folder.old bank)
         (seen I.left I.faults O.written O.faults F.texts F.faults B.faults B.journal_faults B.last_fault B.view input.new output.new folder.new result.bank)
         result.status }
     // The journal of a settled store is never bad.
-    ensures good { IsTrue B.tells → (before : Seq HistoryStep) → IsSettled journal_bytes (B.view bank) before → result.status ≢ 2 }
+    ensures good { IsTrue B.tells → (before : Seq HistoryStep) → IsSettled (run_terms (P.found patterns)) (B.view bank) before → result.status ≢ 2 }
     // A store whose journal is bad is refused, and only read.
-    ensures spared { is_run (map string_bytes words.now) ≡ true → IsTrue B.tells → (place : ℕ) → IsBadJournal journal_bytes ((B.view bank).content 0) place
-        → IsRefused B.tells (B.view bank) (B.view result.bank)
+    ensures spared { is_run (map string_bytes words.now) ≡ true → IsTrue B.tells → (place : ℕ) → IsBadJournal (run_terms (P.found patterns)) ((B.view bank).content 0) place
+        → IsRefused (run_terms (P.found patterns)) B.tells (B.view bank) (B.view result.bank)
         (seen I.left I.faults O.written O.faults F.texts F.faults B.faults B.journal_faults B.last_fault B.view input.old output.old folder.old bank)
         (seen I.left I.faults O.written O.faults F.texts F.faults B.faults B.journal_faults B.last_fault B.view input.new output.new folder.new result.bank)
         result.marks result.status }

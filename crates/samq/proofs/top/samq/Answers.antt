@@ -11,4 +11,4 @@ iff : (form : Bool) (status : ℕ) → form ≡ true → (status ≡ 1 → ⊥) 
 iff form status is never = ((λ one. absurd (never one)), (λ no. absurd (let e : true ≡ false = sym is ∙ no in cc)))
 
 pub returns-clause-words : goal.returns-clause-words
-returns-clause-words g c = iff _ _ (grind (arith, c.is_form.ensures, c.if-not-is_form.false)) (never_one false _ _ _ _ _ [] _ _ g.B.Bank.tells (c.run_lines.ensures.outcome false no_tells [] no_tells))
+returns-clause-words g c = iff _ _ (grind (arith, c.is_form.ensures, c.if-not-is_form.false)) (never_one _ false _ _ _ _ _ [] _ _ g.B.Bank.tells (c.run_lines.ensures.outcome false no_tells [] no_tells))
