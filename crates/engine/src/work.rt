@@ -40,7 +40,7 @@ pub fn do_work<B: Bank>(bank: &mut B, step: &Step, work: Work) -> Result<Reply, 
     // At `Ok` the bytes of the step stand in whatever a crash leaves.
     ensures stored { IsTrue B.tells → OnOk result (StandInAll (B.view bank.new) (extents_over (put_runs step.now) (stored_bytes work))) }
     // The reply is the one that is defined of each site whose bytes stand.
-    ensures gives { (terms : Terms) (told : Bool) → (IsTrue told → IsTrue B.tells) → (site : Site) (defined : Replied) → Gives site work defined → (IsTrue told → AllStand (B.view bank.old).content (extents site))
+    ensures gives { (told : Bool) → (IsTrue told → IsTrue B.tells) → (site : Site) (defined : Replied) → Gives site work defined → (IsTrue told → AllStand (B.view bank.old).content (extents site))
         → IfOk result (IsReply told defined) }
     ensures named { IfOk result TellsNoFault }
     ensures counted { AreCountedInCache B.faults B.journal_faults B.last_fault bank.old bank.new result }

@@ -33,3 +33,8 @@ returns-in-Err-BadJournal-clause-recovered g c = λ terms told tells w s due. (
       (c.in-Err-BadJournal.ensures.bad (tells t) terms (c.size.ensures.size ∙ s.size))),
   stays terms g.B.Bank.view c.args.self.now _ w told s refl refl refl refl refl (λ t. c.in-Err-BadJournal.ensures.unchanged (tells t)),
 )
+
+pub returns-in-Err-BadJournal-clause-bad_journal : goal.returns-in-Err-BadJournal-clause-bad_journal
+returns-in-Err-BadJournal-clause-bad_journal g c = λ t terms size.
+    subst (λ (cause : ShutCause). TellsJournal terms ((g.B.Bank.view c.read_site.new.bank).content 0) cause) c.in-Err-BadJournal.field-0-is
+    (c.in-Err-BadJournal.ensures.bad t terms (c.size.ensures.size ∙ size))
