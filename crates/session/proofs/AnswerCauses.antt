@@ -21,7 +21,7 @@ use Rattle.site_history.specs.FileAnswers.{put_rule, put_answer_by, read_answer_
 use Rattle.site_history.specs.Replies.{Answer}
 use Rattle.site_history.specs.Histories.{after}
 use Rattle.site_history.specs.Worlds.{World, Turn, EventTurn, EventTurnBy, Goes, course_of, answer_in, has_room, moment_of, clock_from, IsReply}
-use Rattle.session.specs.Rounds.{cause_of, faults_of, folder_faults_of}
+use Rattle.session.specs.Rounds.{cause_of, faults_of, folder_faults_of, is_as_defined}
 
 -- A choice of two answers that are no cause is none.
 chosen : (t : Bool) (a b : Answer) → cause_of a.reply ≡ 0 → cause_of b.reply ≡ 0 → cause_of (cond t a b).reply ≡ 0
@@ -71,11 +71,19 @@ machine_calm : (terms : Terms) (history : List HistoryStep) (moment : ℕ) (even
 machine_calm terms history moment event =
     chosen (has_room terms history (answer_to terms (after terms history) moment event).step) _ _ (answer_calm terms (after terms history) moment event) refl
 
--- A reply that is no cause of a status is the defined one.
-pub calm_goes : (reply : Reply) (area : ℕ) → cause_of reply ≡ 0 → course_of reply area ≡ Goes
-calm_goes BankFault area e = absurd (omega (arith, e))
-calm_goes NoMemory area e = absurd (omega (arith, e))
+-- A reply that no fault or want of memory gives is the defined one.
+pub calm_goes : (reply : Reply) (area : ℕ) → is_as_defined reply ≡ true → course_of reply area ≡ Goes
+calm_goes BankFault area e = absurd (cc)
+calm_goes NoMemory area e = absurd (cc)
 calm_goes _ area e = refl
+
+-- A reply that is no cause of a status is none that a fault or want of memory gives.
+pub none_defined : (reply : Reply) → cause_of reply ≡ 0 → is_as_defined reply ≡ true
+none_defined BankFault e = absurd (omega (arith, e))
+none_defined FolderFault e = absurd (omega (arith, e))
+none_defined (BadJournal place) e = absurd (omega (arith, e))
+none_defined NoMemory e = absurd (omega (arith, e))
+none_defined _ e = refl
 
 -- A reply that is the defined one, but for its bytes, is as much of a cause.
 same_cause : (told : Bool) (defined reply : Reply) → IsReply told defined reply → cause_of reply ≡ cause_of defined

@@ -7,13 +7,11 @@ use Rattle.base.specs.Causes.{AreCounted}
 use Rattle.outside.specs.declared.folder.NamedText.{NamedText}
 use Rattle.bank.specs.Content.{Image}
 use Rattle.bank.specs.View.{View, IsImage, IsSound}
-use Rattle.desk.specs.Texts.{text_of}
 use Rattle.input.specs.Reading.{Reading, Items, Moved}
 use Rattle.input.proofs.Steps.{stays, then_moved}
 use Rattle.site_history.specs.Terms.{Terms}
-use Rattle.site_history.specs.Worlds.{World}
 use Rattle.site_history.specs.Images.{ReadsAs}
-use Rattle.session.specs.Asking.{Request}
+use Rattle.session.specs.Requests.{Request}
 use Rattle.session.specs.Rounds.{Stage, Round, IsRoundOf, IsRun, stage_after, asked, output, AreInTime, mark_of, marks_from, cause_of, first_of, status_from, faults_of, faults_in, journal_faults_of, journal_faults_in, IsLastArea, JournalsStood, folder_faults_of, folder_faults_in, calm}
 use Rattle.session.specs.Machine.{AreTold, machine_run, texts_told}
 use Rattle.session.specs.Kept.{AreKept}
@@ -33,8 +31,8 @@ cases : (b : Bool) → (b ≡ true) ⊎ (b ≡ false)
 cases true = inl refl
 cases false = inr refl
 
-module _ (terms : Terms) (Asks : Items Request) (Stands : World → Type 0) (tells : Bool) (store : View) (old now : Outside) (start reader : Reading) (first : Stage) (rests : first.world.due ≡ false) (moment : ℕ) (marks : List Mark) (status : ℕ)
-    (r : Ran terms Asks Stands tells store old now start reader first moment marks status) where
+module _ (terms : Terms) (Asks : Items Request) (Stands : Stage → Type 0) (tells : Bool) (store : View) (old now : Outside) (start reader : Reading) (first : Stage) (rests : first.world.due ≡ false) (marks : List Mark) (status : ℕ)
+    (r : Ran terms Asks Stands tells store old now start reader first marks status) where
   -- the reader stopped, and no request was left
   module _ (left' : Option (List ℕ)) (reader' : Reading) (used beyond : List ℕ) (m : Moved now.left left' reader reader' used beyond) where
     all_moved : Moved old.left left' start reader' (r.used ++ used) beyond
@@ -67,7 +65,7 @@ module _ (terms : Terms) (Asks : Items Request) (Stands : World → Type 0) (tel
           unasked = [];
           asks = asks;
           run = run;
-          stands = subst (λ (l : List Round). Stands (stage_after first l).world) (sym nil) r.stands;
+          stands = subst (λ (l : List Round). Stands (stage_after first l)) (sym nil) r.stands;
           cut = [];
           lost = [];
           cut_off = refl;
@@ -84,8 +82,8 @@ module _ (terms : Terms) (Asks : Items Request) (Stands : World → Type 0) (tel
           ending = ending;
           ends = ends;
           first_cause = ap (λ (n : ℕ). first_of n (status_of ending)) r.status_now ∙ status_then r.rounds (status_of ending) ∙ ap (λ (l : List Round). status_from l (status_of ending)) (sym nil);
-          fixed = subst (λ (l : List Request). AreTold tells (calm old.folder (r.rounds ++ [])) (machine_run terms (texts_told old.folder) first (take (length (calm old.folder (r.rounds ++ []))) l))) asks
-              (fixed_run terms tells old.folder first (r.rounds ++ []) [] rests run);
+          fixed = subst (λ (l : List Request). AreTold tells (calm old.folder first.moments (r.rounds ++ [])) (machine_run terms (texts_told old.folder) first (take (length (calm old.folder first.moments (r.rounds ++ []))) l))) asks
+              (fixed_run terms tells old.folder first.moments first (r.rounds ++ []) [] rests (λ known. known) run);
         }
 
   -- the reader stopped
@@ -106,9 +104,9 @@ module _ (terms : Terms) (Asks : Items Request) (Stands : World → Type 0) (tel
   stopped_at left' source_faults reader' fresh was_open later SinkFault s = absurd s
   stopped_at left' source_faults reader' fresh was_open later NoMemory s = absurd s
 
-  -- a line that asks nothing was read
+  -- bytes that ask nothing were read
   pub goes_over : (left' : Option (List ℕ)) (source_faults : ℕ) (reader' : Reading) → Takes Asks now.left left' reader reader' []
-      → Ran terms Asks Stands tells store old (record now { left = left'; source_faults = source_faults }) start reader' first moment marks status
+      → Ran terms Asks Stands tells store old (record now { left = left'; source_faults = source_faults }) start reader' first marks status
   goes_over left' source_faults reader' t = record {
     rounds = r.rounds;
     used = r.used ++ t.used;
@@ -118,7 +116,6 @@ module _ (terms : Terms) (Asks : Items Request) (Stands : World → Type 0) (tel
     run = r.run;
     go_on = r.go_on;
     stands = r.stands;
-    at_moment = r.at_moment;
     written = r.written;
     marks_told = r.marks_told;
     in_time = r.in_time;
@@ -134,7 +131,7 @@ module _ (terms : Terms) (Asks : Items Request) (Stands : World → Type 0) (tel
 
   -- a request was read, and its round was made
   module _ (left' : Option (List ℕ)) (source_faults : ℕ) (reader' : Reading) (request : Request) (t : Takes Asks now.left left' reader reader' (request ∷ []))
-      (Stands' : World → Type 0) (store' : View) (written' : Option (List ℕ)) (sink_faults : ℕ) (folder' : Option (List NamedText)) (folder_faults bank_faults journal_faults last_fault : ℕ) (marks' : List Mark) (status' : ℕ) (end : Option Ending)
+      (Stands' : Stage → Type 0) (store' : View) (written' : Option (List ℕ)) (sink_faults : ℕ) (folder' : Option (List NamedText)) (folder_faults bank_faults journal_faults last_fault : ℕ) (marks' : List Mark) (status' : ℕ) (end : Option Ending)
       (round : Round) (same_moment : now.moment ≡ store.moment) (same_folder : folder' ≡ now.folder)
       (made : IsRound terms Stands' tells now.folder store store' (stage_after first r.rounds) request now.written written' now.sink_faults sink_faults now.folder_faults folder_faults now.bank_faults bank_faults now.journal_faults journal_faults last_fault
       marks marks' status status' end round) where
@@ -170,15 +167,21 @@ module _ (terms : Terms) (Asks : Items Request) (Stands : World → Type 0) (tel
     whole_then : reader'.ended ≡ true → Asks (r.used ++ t.used) true ≡ asked (r.rounds ++ round ∷ [])
     whole_then e = r.opened t.was_open t.used true ∙ ap (λ (l : List Request). asked r.rounds ++ l) (t.last e) ∙ sym asked_then
 
-    turn_then : IsRoundOf terms tells old.folder (stage_after first r.rounds) round.asked round.area round.journal round.reply round.after
-    turn_then = subst (λ (x : Request). IsRoundOf terms tells old.folder (stage_after first r.rounds) x round.area round.journal round.reply round.after) (sym ir.same)
-        (subst (λ (f : Option (List NamedText)). IsRoundOf terms tells f (stage_after first r.rounds) request round.area round.journal round.reply round.after) r.folder_stays ir.turn)
+    turn_then : IsRoundOf terms tells old.folder (stage_after first r.rounds) round.request.asked round.area round.journal round.reply round.after
+    turn_then = subst (λ (x : Request). IsRoundOf terms tells old.folder (stage_after first r.rounds) x.asked round.area round.journal round.reply round.after) (sym ir.same)
+        (subst (λ (f : Option (List NamedText)). IsRoundOf terms tells f (stage_after first r.rounds) request.asked round.area round.journal round.reply round.after) r.folder_stays ir.turn)
+
+    text_then : round.request.text round.reply ≡ request.text round.reply
+    text_then = ap (λ (x : Request). x.text round.reply) ir.same
+
+    closes_then : round.request.closes round.reply ≡ request.closes round.reply
+    closes_then = ap (λ (x : Request). x.closes round.reply) ir.same
 
     run_then : IsRun terms tells old.folder first (r.rounds ++ round ∷ [])
     run_then = run_more terms tells old.folder first r.rounds round r.run turn_then
 
-    stands_then : Stands' (stage_after first (r.rounds ++ round ∷ [])).world
-    stands_then = subst Stands' (ap (λ (s : Stage). s.world) (sym (after_more first r.rounds round))) ir.stands
+    stands_then : Stands' (stage_after first (r.rounds ++ round ∷ []))
+    stands_then = subst Stands' (sym (after_more first r.rounds round)) ir.stands
 
     before_then : IsTrue tells → AreInTime old.moment r.rounds store.moment
     before_then told = subst (λ (m : ℕ). AreInTime old.moment r.rounds m) same_moment (r.in_time told)
@@ -218,21 +221,21 @@ module _ (terms : Terms) (Asks : Items Request) (Stands : World → Type 0) (tel
     marks_then : marks' ≡ marks ++ mark_of (length marks + 1) round ∷ [] → marks' ≡ marks_from 0 (r.rounds ++ round ∷ [])
     marks_then e = e ∙ ap (λ (l : List Mark). l ++ mark_of (length marks + 1) round ∷ []) r.marks_told ∙ ap (λ (x : Mark). marks_from 0 r.rounds ++ x ∷ []) mark_then ∙ sym (marks_more 0 r.rounds round)
 
-    written_then : Appends now.written written' (text_of round.reply) → Appends old.written written' (output (r.rounds ++ round ∷ []))
-    written_then h = subst (λ (l : List ℕ). Appends old.written written' l) (sym (output_more r.rounds round)) (Appends-trans old.written now.written written' (output r.rounds) (text_of round.reply) r.written h)
+    written_then : Appends now.written written' (request.text round.reply) → Appends old.written written' (output (r.rounds ++ round ∷ []))
+    written_then h = subst (λ (l : List ℕ). Appends old.written written' l) (sym (output_more r.rounds round)) (Appends-trans old.written now.written written' (output r.rounds) (round.request.text round.reply) r.written
+        (subst (λ (l : List ℕ). Appends now.written written' l) (sym text_then) h))
 
-    pub goes_on : (moment' : ℕ) → moment' ≡ round.after.now → Tells now.written written' now.sink_faults sink_faults marks marks' None round.reply (mark_of (length marks + 1) round)
-        → Ran terms Asks Stands' tells store' old new start reader' first moment' marks' status'
-    goes_on moment' same_now told = record {
+    pub goes_on : Tells now.written written' now.sink_faults sink_faults marks marks' None (request.text round.reply) (request.closes round.reply) (mark_of (length marks + 1) round)
+        → Ran terms Asks Stands' tells store' old new start reader' first marks' status'
+    goes_on told = record {
       rounds = r.rounds ++ round ∷ [];
       used = r.used ++ t.used;
       moved = moved_then;
       opened = opened_then;
       whole = whole_then;
       run = run_then;
-      go_on = go_on_more r.rounds round r.go_on told.2;
+      go_on = go_on_more r.rounds round r.go_on (closes_then ∙ told.2);
       stands = stands_then;
-      at_moment = same_now ∙ ap (λ (s : Stage). s.now) (sym (after_more first r.rounds round));
       written = written_then told.0;
       marks_told = marks_then told.1;
       in_time = in_time_then;
@@ -259,7 +262,7 @@ module _ (terms : Terms) (Asks : Items Request) (Stands : World → Type 0) (tel
           ∙ ap (λ (b : Bool). asked (r.rounds ++ round ∷ []) ++ cond b [] (Asks reader'.held false)) (sym e)
     ]
 
-    -- the run ended at a round
+    -- the session ended at a round
     at_round : start.held ≡ [] → start.ended ≡ false → (told untold : List Round) → told ++ untold ≡ r.rounds ++ round ∷ [] → (cut lost : List ℕ) → cut ++ lost ≡ output untold
         → Appends old.written written' (output told ++ cut) → marks' ≡ marks_from 0 told → (ending : Ending)
         → Ends start.budget old new moved_then.more [] reader'.ended told untold cut lost unasked ending
@@ -281,7 +284,7 @@ module _ (terms : Terms) (Asks : Items Request) (Stands : World → Type 0) (tel
           unasked = unasked;
           asks = asks;
           run = run;
-          stands = subst (λ (l : List Round). Stands' (stage_after first l).world) (sym all) stands_then;
+          stands = subst (λ (l : List Round). Stands' (stage_after first l)) (sym all) stands_then;
           cut = cut;
           lost = lost;
           cut_off = cut_off;
@@ -298,19 +301,19 @@ module _ (terms : Terms) (Asks : Items Request) (Stands : World → Type 0) (tel
           ending = ending;
           ends = ends;
           first_cause = status_later (status_of ending) ∙ ap (λ (l : List Round). status_from l (status_of ending)) (sym all);
-          fixed = subst (λ (l : List Request). AreTold tells (calm old.folder (told ++ untold)) (machine_run terms (texts_told old.folder) first (take (length (calm old.folder (told ++ untold))) l))) asks
-              (fixed_run terms tells old.folder first (told ++ untold) unasked rests run);
+          fixed = subst (λ (l : List Request). AreTold tells (calm old.folder first.moments (told ++ untold)) (machine_run terms (texts_told old.folder) first (take (length (calm old.folder first.moments (told ++ untold))) l))) asks
+              (fixed_run terms tells old.folder first.moments first (told ++ untold) unasked rests (λ known. known) run);
         }
 
     pub ends_at : start.held ≡ [] → start.ended ≡ false → old.sink_faults ≤ now.sink_faults → (ending : Ending)
-        → Tells now.written written' now.sink_faults sink_faults marks marks' (Some ending) round.reply (mark_of (length marks + 1) round)
+        → Tells now.written written' now.sink_faults sink_faults marks marks' (Some ending) (request.text round.reply) (request.closes round.reply) (mark_of (length marks + 1) round)
         → IsSession terms Asks Stands' tells start.budget store' old new first marks' (first_of status' (status_of ending))
     ends_at fresh was_open later Closed told =
         at_round fresh was_open (r.rounds ++ round ∷ []) [] (append-nil (r.rounds ++ round ∷ [])) [] [] refl
         (subst (λ (l : List ℕ). Appends old.written written' l) (sym (append-nil (output (r.rounds ++ round ∷ [])))) (written_then told.0)) (marks_then told.1) Closed
-        ((r.rounds, round, refl, r.go_on, told.2), refl, refl)
+        ((r.rounds, round, refl, r.go_on, closes_then ∙ told.2), refl, refl)
     ends_at fresh was_open later SinkFault told =
-        at_round fresh was_open r.rounds (round ∷ []) refl told.0.0 told.0.1 (sym told.0.2 ∙ sym (append-nil (text_of round.reply)))
+        at_round fresh was_open r.rounds (round ∷ []) refl told.0.0 told.0.1 (sym told.0.2 ∙ sym text_then ∙ sym (append-nil (round.request.text round.reply)))
         (Appends-trans old.written now.written written' (output r.rounds) told.0.0 r.written told.0.4) (told.1 ∙ r.marks_told) SinkFault
         (r.go_on, refl, refl, told.0.3, omega (arith, told.2, later))
     ends_at fresh was_open later NoMemory told =
@@ -322,11 +325,11 @@ module _ (terms : Terms) (Asks : Items Request) (Stands : World → Type 0) (tel
     ends_at fresh was_open later OverBudget told = absurd told
 
 -- Nothing was asked yet.
-pub begun : (terms : Terms) (Asks : Items Request) (Stands : World → Type 0) (tells : Bool) (store : View) (now : Outside) (start : Reading) (first : Stage) (moment : ℕ) (marks : List Mark) (status : ℕ)
-    → marks ≡ [] → status ≡ 0 → start.ended ≡ false → Stands first.world → moment ≡ first.now → now.moment ≡ store.moment
+pub begun : (terms : Terms) (Asks : Items Request) (Stands : Stage → Type 0) (tells : Bool) (store : View) (now : Outside) (start : Reading) (first : Stage) (marks : List Mark) (status : ℕ)
+    → marks ≡ [] → status ≡ 0 → start.ended ≡ false → Stands first → now.moment ≡ store.moment
     → (IsTrue tells → IsSound store) → (IsTrue tells → (c : Image) → IsImage store c → ReadsAs terms first.world c)
-    → Ran terms Asks Stands tells store now now start start first moment marks status
-begun terms Asks Stands tells store now start first moment marks status none_marked no_cause was_open stands at_moment same_moment sound images = record {
+    → Ran terms Asks Stands tells store now now start start first marks status
+begun terms Asks Stands tells store now start first marks status none_marked no_cause was_open stands same_moment sound images = record {
   rounds = [];
   used = [];
   moved = stays now.left start;
@@ -335,7 +338,6 @@ begun terms Asks Stands tells store now start first moment marks status none_mar
   run = tt;
   go_on = tt;
   stands = stands;
-  at_moment = at_moment;
   written = Appends-nil now.written;
   marks_told = none_marked;
   in_time = λ t. omega arith;

@@ -1,5 +1,5 @@
 -- From the session of an engine to the session of a call.
-use Rattle.std.proofs.Common.{◌≡◌, inl, inr, ℕ, ◌≤◌, List, ◌++◌, refl, sym, ◌∙◌, subst, arith, Bool, Option, IsTrue}
+use Rattle.std.proofs.Common.{◌≡◌, inl, inr, ℕ, ◌≤◌, List, ◌++◌, refl, sym, ◌∙◌, ap, subst, arith, Bool, Option, Some, IsTrue}
 use Rattle.outside.specs.declared.folder.NamedText.{NamedText}
 use Rattle.bank.specs.Content.{Content}
 use Rattle.bank.specs.View.{View, IsSound, OnlyRead}
@@ -13,21 +13,23 @@ use Rattle.site_history.proofs.JournalLaws.{not_bad_journal}
 use Rattle.site_history.proofs.Reopenings.{settled_as}
 use Rattle.engine.specs.declared.kept.Engine.{Engine}
 use Rattle.engine.specs.StandsFor.{StandsFor}
-use Rattle.session.specs.Asking.{Request, asks_of}
-use Rattle.session.specs.Rounds.{Stage, IsRun, stage_after}
+use Rattle.session.specs.Requests.{Request}
+use Rattle.session.specs.Asking.{asks_of}
+use Rattle.session.specs.Rounds.{Stage, IsRun, stage_after, own}
+use Rattle.session.specs.Standing.{StandsAt}
 use Rattle.session.specs.Kept.{Passes, AreHeld}
 use Rattle.session.specs.Session.{Outside, IsSession, Ends}
-use Rattle.session.specs.Outcomes.{IsAnswered, IsOutcome, HasStatus, stage_of, journal_bytes}
+use Rattle.session.specs.Outcomes.{IsAnswered, WritesWhole, IsOutcome, HasStatus, stage_of, journal_bytes}
 use Rattle.session.specs.declared.kept.Mark.{Mark}
 use Rattle.session.specs.declared.kept.Ending.{Ending}
 use Rattle.session.proofs.KeptLaws.{opening_read, opening_later}
 use Rattle.session.proofs.Prefixes.{marks_held}
-use Rattle.session.proofs.Statuses.{whole_output, session_status, session_exits}
+use Rattle.session.proofs.Statuses.{whole_output, session_output, session_status, session_exits}
 use Rattle.session.proofs.Refusals.{refusal_exits}
 use Rattle.session.proofs.Owing.{owed_by_fault}
 
 -- Earlier counts of the store's faults, and less of where the engine stands.
-module _ (terms : Terms) (Asks : Items Request) (Stands Stands' : World → Type 0) (tells : Bool) (budget : ℕ) (store : View) (old new : Outside) (bank_faults journal_faults last_fault : ℕ) (first : Stage) (marks : List Mark) (status : ℕ)
+module _ (terms : Terms) (Asks : Items Request) (Stands Stands' : Stage → Type 0) (tells : Bool) (budget : ℕ) (store : View) (old new : Outside) (bank_faults journal_faults last_fault : ℕ) (first : Stage) (marks : List Mark) (status : ℕ)
     (s : IsSession terms Asks Stands tells budget store old new first marks status) where
   ends_still : (ending : Ending) → Ends budget old new s.read s.beyond s.met_end s.told s.untold s.cut s.lost s.unasked ending
       → Ends budget (record old { bank_faults = bank_faults; journal_faults = journal_faults; last_fault = last_fault }) new s.read s.beyond s.met_end s.told s.untold s.cut s.lost s.unasked ending
@@ -38,7 +40,7 @@ module _ (terms : Terms) (Asks : Items Request) (Stands Stands' : World → Type
   ends_still Ending.OverBudget e = e
   ends_still Ending.NoMemory e = e
 
-  counted_earlier : bank_faults ≤ old.bank_faults → journal_faults ≤ old.journal_faults → ((w : World) → Stands w → Stands' w)
+  counted_earlier : bank_faults ≤ old.bank_faults → journal_faults ≤ old.journal_faults → ((stage : Stage) → Stands stage → Stands' stage)
       → IsSession terms Asks Stands' tells budget store (record old { bank_faults = bank_faults; journal_faults = journal_faults; last_fault = last_fault }) new first marks status
   counted_earlier fewer fewer_journal stands = record {
     read = s.read;
@@ -73,9 +75,9 @@ module _ (terms : Terms) (Asks : Items Request) (Stands Stands' : World → Type
   }
 
 -- What a crash left since a mark holds the steps that the mark counts.
-all_held : (terms : Terms) (store : View) (tells : Bool) (old new : Outside) (first : Stage) (marks : List Mark) (Stands : World → Type 0) (budget status : ℕ)
-    → (s : IsSession terms asks_of Stands tells budget store old new first marks status) → IsTrue tells → AreHeld terms store (stage_after first (s.told ++ s.untold)).world.history marks
-all_held terms store tells old new first marks Stands budget status s t =
+all_held : (terms : Terms) (Asks : Items Request) (Stands : Stage → Type 0) (tells : Bool) (budget : ℕ) (store : View) (old new : Outside) (first : Stage) (marks : List Mark) (status : ℕ)
+    → (s : IsSession terms Asks Stands tells budget store old new first marks status) → IsTrue tells → AreHeld terms store (stage_after first (s.told ++ s.untold)).world.history marks
+all_held terms Asks Stands tells budget store old new first marks status s t =
     subst (λ (ms : List Mark). AreHeld terms store (stage_after first (s.told ++ s.untold)).world.history ms) (sym s.marks_told)
     (marks_held terms old.folder store old.moment 0 first s.told s.untold (s.kept t) (subst (λ (b : Bool). IsRun terms b old.folder first (s.told ++ s.untold)) t s.run))
 
@@ -84,9 +86,15 @@ leaves_settled : (terms : Terms) → {B P : Type 0} (told : Bool) (view : B → 
     → IsTrue told → IsSettledAs terms (view engine.bank) w
 leaves_settled terms told view engine w sound stands t = settled_as terms (view engine.bank) w (sound t) (λ c image. stands.images t c image)
 
--- What a call hands back after a session.
-module _ (terms : Terms) {B P : Type 0} (told : Bool) (faults journal_faults last_fault : B → ℕ) (view : B → View) (left left' : Option (List ℕ)) (source_faults source_faults' : ℕ) (written written' : Option (List ℕ)) (sink_faults sink_faults' : ℕ)
-    (texts texts' : Option (List NamedText)) (folder_faults folder_faults' : ℕ) (bank : B) (opening closing : Engine B P) (before : List HistoryStep) where
+-- A run of lines begins at the moment of the engine's clock.
+pub begins_at : (terms : Terms) → {B P : Type 0} (told : Bool) (view : B → View) (engine : Engine B P) (clock : Option (List ℕ)) (found : List HistoryStep) → StandsFor terms told view engine (new_world terms found) → StandsAt terms told view engine (Some engine.clock) clock (stage_of terms found)
+begins_at terms told view engine clock found stands = record { world = stands; moments = ap (λ (n : ℕ). own n) (sym stands.clock) }
+
+-- What a call hands back after a session. `own_moment` and `clock` are the moments to come once the store is open, `own_moment'` and
+-- `clock'` those at the end.
+module _ (terms : Terms) {B P : Type 0} (Asks : Items Request) (begins : List HistoryStep → Stage) (told : Bool) (faults journal_faults last_fault : B → ℕ) (view : B → View) (left left' : Option (List ℕ)) (source_faults source_faults' : ℕ) (written written' : Option (List ℕ)) (sink_faults sink_faults' : ℕ)
+    (texts texts' : Option (List NamedText)) (folder_faults folder_faults' : ℕ) (own_moment own_moment' : Option ℕ) (clock clock' : Option (List ℕ)) (bank : B) (opening closing : Engine B P) (before : List HistoryStep)
+    (at_new : (found : List HistoryStep) → (begins found).world ≡ new_world terms found) where
   -- what is told before the call, once the store is open, and at the end
   abbrev seen_at : B → Outside
   seen_at from = record {
@@ -125,42 +133,45 @@ module _ (terms : Terms) {B P : Type 0} (told : Bool) (faults journal_faults las
   answered : (found : List HistoryStep) (budget : ℕ) (marks : List Mark) (status : ℕ) → IsFound terms told before found → (IsTrue told → OnlyRead (view bank) (view opening.bank))
       → (IsTrue told → IsSettled terms (view bank) before) → (IsTrue told → IsSound (view closing.bank)) → faults bank ≤ faults opening.bank → journal_faults bank ≤ journal_faults opening.bank
       → (IsTrue told → Passes (view opening.bank) (view closing.bank))
-      → IsSession terms asks_of (StandsFor terms told view closing) told budget (view closing.bank) seen_open (seen_after closing.bank) (stage_of terms found) marks status
-      → IsAnswered terms told budget (view bank) (view closing.bank) seen_before (seen_after closing.bank) before marks status
+      → IsSession terms Asks (StandsAt terms told view closing own_moment' clock') told budget (view closing.bank) seen_open (seen_after closing.bank) (begins found) marks status
+      → IsAnswered terms Asks begins told budget (view bank) (view closing.bank) seen_before (seen_after closing.bank) before marks status
   answered found budget marks status is_found read settled sound fewer fewer_journal passes session =
-      let Settled : World → Type 0 = λ w. IsTrue told → IsSettledAs terms (view closing.bank) w in
-      let whole_call : IsSession terms asks_of Settled told budget (view closing.bank) (record seen_open { bank_faults = faults bank; journal_faults = journal_faults bank; last_fault = last_fault bank }) (seen_after closing.bank) (stage_of terms found) marks status =
-      counted_earlier terms asks_of (StandsFor terms told view closing) Settled told budget (view closing.bank) seen_open (seen_after closing.bank)
-      (faults bank) (journal_faults bank) (last_fault bank) (stage_of terms found) marks status session fewer fewer_journal (λ w stands. leaves_settled terms told view closing w sound stands) in
+      let Settled : Stage → Type 0 = λ stage. IsTrue told → IsSettledAs terms (view closing.bank) stage.world in
+      let earlier : Outside = record seen_open { bank_faults = faults bank; journal_faults = journal_faults bank; last_fault = last_fault bank } in
+      let whole_call : IsSession terms Asks Settled told budget (view closing.bank) earlier (seen_after closing.bank) (begins found) marks status =
+      counted_earlier terms Asks (StandsAt terms told view closing own_moment' clock') Settled told budget (view closing.bank) seen_open (seen_after closing.bank)
+      (faults bank) (journal_faults bank) (last_fault bank) (begins found) marks status session fewer fewer_journal
+      (λ stage stands. leaves_settled terms told view closing stage.world sound stands.world) in
       record {
         found = found;
         is_found = is_found;
         opened = (view opening.bank).moment;
         opening = λ t. opening_later (view bank) (view opening.bank) (view closing.bank) (passes t) (opening_read (view bank) (view opening.bank) (read t));
         session = whole_call;
-        rests = owed_by_fault terms told texts (stage_of terms found) (whole_call.told ++ whole_call.untold) (journal_faults bank) (journal_faults closing.bank) refl refl whole_call.run whole_call.journal_counted;
-        acknowledged = all_held terms (view closing.bank) told (record seen_open { bank_faults = faults bank; journal_faults = journal_faults bank; last_fault = last_fault bank }) (seen_after closing.bank) (stage_of terms found) marks Settled budget status whole_call;
-        whole = whole_output terms (StandsFor terms told view closing) told budget (view closing.bank) seen_open (seen_after closing.bank) (stage_of terms found) refl marks status session;
+        rests = owed_by_fault terms told texts (begins found) (whole_call.told ++ whole_call.untold) (journal_faults bank) (journal_faults closing.bank) (ap (λ (w : World). w.due) (at_new found)) (ap (λ (w : World). w.owed) (at_new found)) whole_call.run whole_call.journal_counted;
+        acknowledged = all_held terms Asks Settled told budget (view closing.bank) earlier (seen_after closing.bank) (begins found) marks status whole_call;
+        output = session_output terms Asks Settled told budget (view closing.bank) earlier (seen_after closing.bank) (begins found) (ap (λ (w : World). w.due) (at_new found)) marks status whole_call;
       }
 
   -- The same, by what the parts of the call say.
-  pub handed : (found : List HistoryStep) × IsFound terms told before found × StandsFor terms told view opening (new_world terms found) → (IsTrue told → OnlyRead (view bank) (view opening.bank))
+  pub handed : (found : List HistoryStep) × IsFound terms told before found × StandsFor terms told view opening (new_world terms found)
+      → ((found : List HistoryStep) → StandsFor terms told view opening (new_world terms found) → StandsAt terms told view opening own_moment clock (begins found)) → (IsTrue told → OnlyRead (view bank) (view opening.bank))
       → (IsTrue told → IsSettled terms (view bank) before) → (IsTrue told → IsSound (view closing.bank)) → faults bank ≤ faults opening.bank → journal_faults bank ≤ journal_faults opening.bank
-      → (budget budget' moment : ℕ) (bank' : B) (marks marks' : List Mark) (status status' : ℕ) → moment ≡ opening.clock
-      → ((stage : Stage) → StandsFor terms told view opening stage.world → moment ≡ stage.now → IsTrue told → Passes (view opening.bank) (view closing.bank))
-      → ((stage : Stage) → StandsFor terms told view opening stage.world → moment ≡ stage.now
-      → IsSession terms asks_of (StandsFor terms told view closing) told budget' (view closing.bank) seen_open (seen_after closing.bank) stage marks status)
+      → (budget budget' : ℕ) (bank' : B) (marks marks' : List Mark) (status status' : ℕ)
+      → ((stage : Stage) → StandsAt terms told view opening own_moment clock stage → IsTrue told → Passes (view opening.bank) (view closing.bank))
+      → ((stage : Stage) → StandsAt terms told view opening own_moment clock stage
+      → IsSession terms Asks (StandsAt terms told view closing own_moment' clock') told budget' (view closing.bank) seen_open (seen_after closing.bank) stage marks status)
       → budget' ≡ budget → bank' ≡ closing.bank → marks' ≡ marks → status' ≡ status
-      → IsAnswered terms told budget (view bank) (view bank') seen_before (seen_after bank') before marks' status'
-  handed reopened read settled sound fewer fewer_journal budget budget' moment bank' marks marks' status status' at_clock passes session same_budget same_bank same_marks same_status =
-      let stage = stage_of terms reopened.0 in
-      let now : moment ≡ stage.now = at_clock ∙ reopened.2.clock in
-      subst (λ (code : ℕ). IsAnswered terms told budget (view bank) (view bank') seen_before (seen_after bank') before marks' code) (sym same_status)
-      (subst (λ (ms : List Mark). IsAnswered terms told budget (view bank) (view bank') seen_before (seen_after bank') before ms status) (sym same_marks)
-      (subst (λ (b : B). IsAnswered terms told budget (view bank) (view b) seen_before (seen_after b) before marks status) (sym same_bank)
-      (answered reopened.0 budget marks status reopened.1 read settled sound fewer fewer_journal (passes stage reopened.2 now)
-      (subst (λ (b : ℕ). IsSession terms asks_of (StandsFor terms told view closing) told b (view closing.bank) seen_open (seen_after closing.bank) stage marks status) same_budget
-      (session stage reopened.2 now)))))
+      → IsAnswered terms Asks begins told budget (view bank) (view bank') seen_before (seen_after bank') before marks' status'
+  handed reopened begun read settled sound fewer fewer_journal budget budget' bank' marks marks' status status' passes session same_budget same_bank same_marks same_status =
+      let stage = begins reopened.0 in
+      let stands = begun reopened.0 reopened.2 in
+      subst (λ (code : ℕ). IsAnswered terms Asks begins told budget (view bank) (view bank') seen_before (seen_after bank') before marks' code) (sym same_status)
+      (subst (λ (ms : List Mark). IsAnswered terms Asks begins told budget (view bank) (view bank') seen_before (seen_after bank') before ms status) (sym same_marks)
+      (subst (λ (b : B). IsAnswered terms Asks begins told budget (view bank) (view b) seen_before (seen_after b) before marks status) (sym same_bank)
+      (answered reopened.0 budget marks status reopened.1 read settled sound fewer fewer_journal (passes stage stands)
+      (subst (λ (b : ℕ). IsSession terms Asks (StandsAt terms told view closing own_moment' clock') told b (view closing.bank) seen_open (seen_after closing.bank) stage marks status) same_budget
+      (session stage stands)))))
 
 -- The causes of a status do not speak of the store's moment.
 status_at : (terms : Terms) (tells : Bool) (journal : Content) (budget : ℕ) (old new : Outside) (moment status : ℕ) → HasStatus terms tells journal budget (record old { moment = moment }) new status → HasStatus terms tells journal budget old new status
@@ -176,14 +187,22 @@ status_at terms tells journal budget old new moment status h = record {
 }
 
 module _ (terms : Terms) (told : Bool) (budget : ℕ) (entry store : View) (old new : Outside) (before : List HistoryStep) (marks : List Mark) (status : ℕ) where
-  -- The causes of the status of a call whose store was opened.
+  abbrev Settles : Stage → Type 0
+  Settles stage = IsTrue told → IsSettledAs terms store stage.world
+
+  -- What a run of lines wrote.
+  pub with_whole : IsAnswered terms asks_of (stage_of terms) told budget entry store old new before marks status
+      → (answered : IsAnswered terms asks_of (stage_of terms) told budget entry store old new before marks status) × WritesWhole terms told budget old new answered.found status
+  with_whole a = (a, whole_output terms Settles told budget store (record old { moment = a.opened }) new (stage_of terms a.found) refl marks status a.session)
+
+  -- The causes of the status of a run of lines whose store was opened.
   pub answered_status : (tells : Bool) (journal : Content) → (IsTrue tells → (found : List HistoryStep) × HoldsHistory terms journal found)
-      → IsAnswered terms told budget entry store old new before marks status → HasStatus terms tells journal budget old new status
+      → IsAnswered terms asks_of (stage_of terms) told budget entry store old new before marks status → HasStatus terms tells journal budget old new status
   answered_status tells journal holds a = status_at terms tells journal budget old new a.opened status
-      (session_status terms (λ w. IsTrue told → IsSettledAs terms store w) told budget store (record old { moment = a.opened }) new (stage_of terms a.found) refl marks status a.session tells journal
+      (session_status terms Settles told budget store (record old { moment = a.opened }) new (stage_of terms a.found) refl marks status a.session tells journal
       (λ t place bad. not_bad_journal terms journal (holds t).0 place (holds t).1 bad))
 
   -- No call over words that are a form ends with status 1.
   pub never_one : (tells : Bool) → IsOutcome terms told tells budget entry store old new before marks status → status ≡ 1 → ⊥
-  never_one tells (inl a) h = session_exits terms (λ w. IsTrue told → IsSettledAs terms store w) told budget store (record old { moment = a.opened }) new (stage_of terms a.found) refl marks status a.session (inl h)
+  never_one tells (inl a) h = session_exits terms Settles told budget store (record old { moment = a.0.opened }) new (stage_of terms a.0.found) refl marks status a.0.session (inl h)
   never_one tells (inr r) h = refusal_exits terms old new tells (entry.content 0) status r.0.refusal h

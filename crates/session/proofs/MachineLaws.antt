@@ -1,8 +1,9 @@
 -- The machine's answers, and those of a session up to the first fault or want of memory.
-use Rattle.std.proofs.Common.{◌≡◌, inl, inr, ℕ, ◌+◌, List, [], ◌∷◌, ◌++◌, length, take, refl, ◌∙◌, ap, subst, arith, Bool, true, false, ◌&&◌, cond, Option, Some, None, Ok, Err, IsTrue}
-use Rattle.std.proofs.lemmas.Bool.{eqb-true, and_parts}
-use Rattle.std.specs.Prelude.{flat_map, nat_eq}
+use Rattle.std.proofs.Common.{◌≡◌, inl, inr, ℕ, ◌+◌, List, [], ◌∷◌, ◌++◌, length, take, refl, sym, ◌∙◌, ap, subst, Bool, true, false, ◌&&◌, cond, Option, Some, None, IfSome, Result, Ok, Err, IsTrue}
+use Rattle.std.proofs.lemmas.Bool.{and_parts}
+use Rattle.std.specs.Prelude.{max}
 use Rattle.outside.specs.declared.folder.NamedText.{NamedText}
+use Rattle.outside.specs.Moments.{Gives, next_moment}
 use Rattle.bank.specs.Content.{Content}
 use Rattle.site_events.specs.declared.event.Asked.{Asked}
 use Rattle.site_events.specs.declared.event.Asked.TheVariants.{One, At as AskedAt, Configure}
@@ -10,16 +11,16 @@ use Rattle.site_events.specs.declared.event.Event.{Event}
 use Rattle.site_events.specs.declared.event.Event.TheVariants.{Configure as ConfigureEvent}
 use Rattle.site_types.specs.declared.file.SiteTexts.{SiteTexts}
 use Rattle.site_events.specs.declared.reply.Reply.{Reply}
-use Rattle.site_events.specs.declared.reply.Reply.TheVariants.{Line, Bytes}
+use Rattle.site_events.specs.declared.reply.Reply.TheVariants.{Line, Bytes, FolderFault, NoMemory}
+use Rattle.site_events.specs.declared.reply.LineRefusal.{LineRefusal}
 use Rattle.site_events.specs.declared.reply.LineRefusal.TheVariants.{NotACommand}
-use Rattle.desk.specs.Texts.{text_of}
 use Rattle.configuration.specs.FolderTexts.{AreRead}
 use Rattle.site_history.specs.Terms.{Terms}
 use Rattle.site_history.specs.Steps.{HistoryStep}
 use Rattle.site_history.specs.Worlds.{World, at, with_step, Turn, TurnBy, EventTurn, EventTurnBy, Course, answer_in, moment_of, IsReply}
-use Rattle.session.specs.Asking.{Request}
-use Rattle.session.specs.Rounds.{Stage, Round, Answers, IsEvent, IsRoundOf, IsRun, asked, output, cause_of, faults_of, folder_faults_of, is_told, calm}
-use Rattle.session.specs.Machine.{Told, event_tells, machine_tells, machine_run, texts_told, AreTold}
+use Rattle.session.specs.Requests.{Request}
+use Rattle.session.specs.Rounds.{Stage, Round, Answers, IsEvent, IsMovedTo, IsRoundOf, IsRun, GoOn, asked, output, cause_of, faults_of, folder_faults_of, is_as_defined, is_known, is_told, calm}
+use Rattle.session.specs.Machine.{Told, moment_told, moments_then, event_told, event_tells, moved_to, machine_tells, machine_run, texts_told, AreTold, output_of}
 use Rattle.session.proofs.AnswerCauses.{calm_goes, CauseOf, turn_cause}
 
 -- A refused line, and a moment, are replied as they are defined, whether the store tells its content or not.
@@ -32,7 +33,7 @@ line_reply false _ reply other e = e
 abbrev IsToldBy : Bool → Told → Reply → Stage → Type 0
 IsToldBy told t reply stage' = IsReply told t.reply reply × (stage' ≡ t.after)
 
-calm_turn : (terms : Terms) (told : Bool) (history : List HistoryStep) (event : Event) (moment area : ℕ) (reply : Reply) (w' : World) → Turn terms told history event moment area reply w' → cause_of reply ≡ 0
+calm_turn : (terms : Terms) (told : Bool) (history : List HistoryStep) (event : Event) (moment area : ℕ) (reply : Reply) (w' : World) → Turn terms told history event moment area reply w' → is_as_defined reply ≡ true
     → IsReply told (answer_in terms history moment event).reply reply × (w' ≡ at (with_step history (answer_in terms history moment event).step) moment)
 calm_turn terms told history event moment area reply w' turn calm =
     subst (λ (c : Course). TurnBy c told (answer_in terms history moment event) history moment reply w') (calm_goes reply area calm) turn
@@ -42,73 +43,142 @@ pub turn_at_rest : (terms : Terms) (told : Bool) (w : World) (event : Event) (no
     → Turn terms told w.history event (moment_of w.clock now) area reply w'
 turn_at_rest terms told w event now area journal reply w' rest turn = subst (λ (due : Bool). EventTurnBy terms due told w event now area journal reply w') rest turn
 
-calm_event : (terms : Terms) (told : Bool) (stage : Stage) (event : Event) (area : ℕ) (journal : Content) (reply : Reply) (stage' : Stage) → stage.world.due ≡ false → IsEvent terms told stage event area journal reply stage' → cause_of reply ≡ 0
-    → IsToldBy told (event_tells terms stage event) reply stage'
-calm_event terms told stage event area journal reply stage' rest turn calm =
-    let t = calm_turn terms told stage.world.history event (moment_of stage.world.clock stage.now) area reply turn.0 (turn_at_rest terms told stage.world event stage.now area journal reply turn.0 rest turn.1) calm in
-    (t.0, turn.2 ∙ ap (λ (x : World). let s : Stage = record { world = x; now = stage.now } in s) t.1)
+-- A clock that tells its moments gives the next one.
+gives_told : (old new : Option (List ℕ)) (moment : ℕ) → is_known old ≡ true → Gives old new moment → (moment ≡ moment_told old) × (new ≡ moments_then old)
+gives_told (Some moments) new moment known gives = gives
+gives_told None new moment known gives = absurd (cc)
 
-calm_answers : (told : Bool) (defined : Reply) (stage : Stage) (reply : Reply) (stage' : Stage) → ((bytes : List ℕ) → defined ≡ Bytes bytes → ⊥) → Answers defined stage reply stage' → cause_of reply ≡ 0
+next_told : (old : Option (List ℕ)) (now : ℕ) → is_known old ≡ true → IfSome old (λ (moments : List ℕ). now ≡ next_moment moments) → now ≡ moment_told old
+next_told (Some moments) now known is = is
+next_told None now known is = absurd (cc)
+
+-- What it tells stays known.
+then_known : (old : Option (List ℕ)) → is_known old ≡ true → is_known (moments_then old) ≡ true
+then_known (Some moments) known = refl
+then_known None known = absurd (cc)
+
+-- A reply that is as defined is none of the others.
+not_lost : {A : Type 0} (reply lost : Reply) → is_as_defined lost ≡ false → reply ≡ lost → is_as_defined reply ≡ true → A
+not_lost reply lost undefined e is = absurd (let c : true ≡ false = sym is ∙ ap is_as_defined e ∙ undefined in cc)
+
+calm_event : (terms : Terms) (told : Bool) (stage : Stage) (event : Event) (area : ℕ) (journal : Content) (reply : Reply) (stage' : Stage) → stage.world.due ≡ false → is_known stage.moments ≡ true → IsEvent terms told stage event area journal reply stage'
+    → is_as_defined reply ≡ true → IsToldBy told (event_tells terms stage event) reply stage'
+calm_event terms told stage event area journal reply stage' rest known turn calm =
+    let given = gives_told stage.moments stage'.moments turn.0 known turn.1 in
+    let t = calm_turn terms told stage.world.history event (moment_of stage.world.clock turn.0) area reply stage'.world (turn_at_rest terms told stage.world event turn.0 area journal reply stage'.world rest turn.2) calm in
+    subst (λ (n : ℕ). IsToldBy told (event_told stage.world (moments_then stage.moments) (moment_of stage.world.clock n) (answer_in terms stage.world.history (moment_of stage.world.clock n) event)) reply stage') given.0 (
+      t.0,
+      ap (λ (x : World). let s : Stage = record { world = x; moments = stage'.moments } in s) t.1
+          ∙ ap (λ (ms : Option (List ℕ)). let s : Stage = record { world = at (with_step stage.world.history (answer_in terms stage.world.history (moment_of stage.world.clock turn.0) event).step) (moment_of stage.world.clock turn.0); moments = ms } in s) given.1,
+    )
+
+calm_moved : (told : Bool) (stage : Stage) (moment : ℕ) (reply : Reply) (stage' : Stage) → is_known stage.moments ≡ true → IsMovedTo moment stage reply stage' → IsToldBy told (moved_to stage (max moment (moment_told stage.moments))) reply stage'
+calm_moved told stage moment reply stage' known moved =
+    subst (λ (n : ℕ). IsToldBy told (moved_to stage (max moment n)) reply stage') (next_told stage.moments moved.0 known moved.1) (line_reply told _ reply (λ bytes e. cc) moved.2, moved.3)
+
+calm_answers : (told : Bool) (defined : Reply) (stage : Stage) (reply : Reply) (stage' : Stage) → ((bytes : List ℕ) → defined ≡ Bytes bytes → ⊥) → Answers defined stage reply stage' → is_as_defined reply ≡ true
     → IsReply told defined reply × (stage' ≡ stage)
 calm_answers told defined stage reply stage' other (inl e, same) calm = (line_reply told defined reply other e, same)
-calm_answers told defined stage reply stage' other (inr e, same) calm = absurd (omega (arith, calm, ap cause_of e))
+calm_answers told defined stage reply stage' other (inr e, same) calm = not_lost reply NoMemory refl e calm
 
 -- A reply and a stage are what the machine tells, by texts that a folder may have given.
-abbrev IsToldOf : (terms : Terms) → Terms → Bool → Option (List NamedText) → Stage → Request → Reply → Stage → Type 0
-IsToldOf terms told folder stage request reply stage' = (texts : SiteTexts) × AreRead folder texts × IsToldBy told (machine_tells terms texts stage request) reply stage'
+abbrev IsToldOf : (terms : Terms) → Terms → Bool → Option (List NamedText) → Stage → Result Asked LineRefusal → Reply → Stage → Type 0
+IsToldOf terms told folder stage demand reply stage' = (texts : SiteTexts) × AreRead folder texts × IsToldBy told (machine_tells terms texts stage demand) reply stage'
 
 told_read : (folder : Option (List NamedText)) → AreRead folder (texts_told folder)
 told_read None = tt
 told_read (Some texts) = refl
 
+-- A round whose reply is as defined is as the machine tells it, where the folder and the clock fix that.
 calm_asked : (terms : Terms) (told : Bool) (folder : Option (List NamedText)) (stage : Stage) (asked : Asked) (area : ℕ) (journal : Content) (reply : Reply) (stage' : Stage) → stage.world.due ≡ false
-    → IsRoundOf terms told folder stage (Ok asked) area journal reply stage' → cause_of reply ≡ 0 → IsToldOf terms told folder stage (Ok asked) reply stage'
-calm_asked terms told folder stage (One event) area journal reply stage' rest (inl lost) calm = absurd (omega (arith, calm, ap cause_of lost.0))
-calm_asked terms told folder stage (One event) area journal reply stage' rest (inr turn) calm = (texts_told folder, told_read folder, calm_event terms told stage event area journal reply stage' rest turn calm)
-calm_asked terms told folder stage (AskedAt moment) area journal reply stage' rest (inl lost) calm = absurd (omega (arith, calm, ap cause_of lost.0))
-calm_asked terms told folder stage (AskedAt moment) area journal reply stage' rest (inr turn) calm = (texts_told folder, told_read folder, (line_reply told _ reply (λ bytes e. cc) turn.0, turn.1))
-calm_asked terms told folder stage Configure area journal reply stage' rest (inl (inl fault, same)) calm = absurd (omega (arith, calm, ap cause_of fault))
-calm_asked terms told folder stage Configure area journal reply stage' rest (inl (inr lost, same)) calm = absurd (omega (arith, calm, ap cause_of lost))
-calm_asked terms told folder stage Configure area journal reply stage' rest (inr (texts, read, turn)) calm = (texts, read, calm_event terms told stage (ConfigureEvent texts) area journal reply stage' rest turn calm)
-calm_asked terms told folder stage _ area journal reply stage' rest answers calm =
+    → IsRoundOf terms told folder stage (Ok asked) area journal reply stage' → is_as_defined reply ≡ true → is_told folder stage.moments (Ok asked) ≡ true → IsToldOf terms told folder stage (Ok asked) reply stage'
+calm_asked terms told folder stage (One event) area journal reply stage' rest (inl lost) calm fixed = not_lost reply NoMemory refl lost.0 calm
+calm_asked terms told folder stage (One event) area journal reply stage' rest (inr turn) calm fixed = (texts_told folder, told_read folder, calm_event terms told stage event area journal reply stage' rest fixed turn calm)
+calm_asked terms told folder stage (AskedAt moment) area journal reply stage' rest (inl lost) calm fixed = not_lost reply NoMemory refl lost.0 calm
+calm_asked terms told folder stage (AskedAt moment) area journal reply stage' rest (inr moved) calm fixed = (texts_told folder, told_read folder, calm_moved told stage moment reply stage' fixed moved)
+calm_asked terms told folder stage Configure area journal reply stage' rest (inl (inl fault, same)) calm fixed = not_lost reply FolderFault refl fault calm
+calm_asked terms told folder stage Configure area journal reply stage' rest (inl (inr lost, same)) calm fixed = not_lost reply NoMemory refl lost calm
+calm_asked terms told folder stage Configure area journal reply stage' rest (inr (texts, read, turn)) calm fixed =
+    (texts, read, calm_event terms told stage (ConfigureEvent texts) area journal reply stage' rest (and_parts (is_known folder) (is_known stage.moments) fixed).1 turn calm)
+calm_asked terms told folder stage _ area journal reply stage' rest answers calm fixed =
     (texts_told folder, told_read folder, calm_answers told (Line NotACommand) stage reply stage' (λ bytes e. cc) answers calm)
 
--- A round whose reply is no cause is as the machine tells it.
-calm_round : (terms : Terms) (told : Bool) (folder : Option (List NamedText)) (stage : Stage) (request : Request) (area : ℕ) (journal : Content) (reply : Reply) (stage' : Stage) → stage.world.due ≡ false
-    → IsRoundOf terms told folder stage request area journal reply stage' → cause_of reply ≡ 0 → IsToldOf terms told folder stage request reply stage'
-calm_round terms told folder stage (Err refusal) area journal reply stage' rest answers calm =
+calm_round : (terms : Terms) (told : Bool) (folder : Option (List NamedText)) (stage : Stage) (demand : Result Asked LineRefusal) (area : ℕ) (journal : Content) (reply : Reply) (stage' : Stage) → stage.world.due ≡ false
+    → IsRoundOf terms told folder stage demand area journal reply stage' → is_as_defined reply ≡ true → is_told folder stage.moments demand ≡ true → IsToldOf terms told folder stage demand reply stage'
+calm_round terms told folder stage (Err refusal) area journal reply stage' rest answers calm fixed =
     (texts_told folder, told_read folder, calm_answers told (Line refusal) stage reply stage' (λ bytes e. cc) answers calm)
-calm_round terms told folder stage (Ok asked) area journal reply stage' rest round calm = calm_asked terms told folder stage asked area journal reply stage' rest round calm
+calm_round terms told folder stage (Ok asked) area journal reply stage' rest round calm fixed = calm_asked terms told folder stage asked area journal reply stage' rest round calm fixed
 
 -- Where the folder fixes what the machine tells, any texts that were read give it.
-told_alike : (terms : Terms) (folder : Option (List NamedText)) (texts : SiteTexts) (stage : Stage) (request : Request) → AreRead folder texts → is_told folder request ≡ true
-    → machine_tells terms texts stage request ≡ machine_tells terms (texts_told folder) stage request
-told_alike terms (Some named) texts stage request read fixed = ap (λ (t : SiteTexts). machine_tells terms t stage request) read
+told_alike : (terms : Terms) (folder : Option (List NamedText)) (texts : SiteTexts) (stage : Stage) (demand : Result Asked LineRefusal) → AreRead folder texts → is_told folder stage.moments demand ≡ true
+    → machine_tells terms texts stage demand ≡ machine_tells terms (texts_told folder) stage demand
+told_alike terms (Some named) texts stage demand read fixed = ap (λ (t : SiteTexts). machine_tells terms t stage demand) read
 told_alike terms None texts stage (Err refusal) read fixed = refl
 told_alike terms None texts stage (Ok Configure) read fixed = absurd (cc)
 told_alike terms None texts stage (Ok _) read fixed = refl
 
 -- Then such a round is as the machine tells it by the folder's texts.
-fixed_round : (terms : Terms) (told : Bool) (folder : Option (List NamedText)) (stage : Stage) (request : Request) (area : ℕ) (journal : Content) (reply : Reply) (stage' : Stage) → stage.world.due ≡ false
-    → IsRoundOf terms told folder stage request area journal reply stage' → cause_of reply ≡ 0 → is_told folder request ≡ true → IsToldBy told (machine_tells terms (texts_told folder) stage request) reply stage'
-fixed_round terms told folder stage request area journal reply stage' rest round calm fixed =
-    let t = calm_round terms told folder stage request area journal reply stage' rest round calm in
-    subst (λ (s : Told). IsToldBy told s reply stage') (told_alike terms folder t.0 stage request t.1 fixed) t.2
+fixed_round : (terms : Terms) (told : Bool) (folder : Option (List NamedText)) (stage : Stage) (demand : Result Asked LineRefusal) (area : ℕ) (journal : Content) (reply : Reply) (stage' : Stage) → stage.world.due ≡ false
+    → IsRoundOf terms told folder stage demand area journal reply stage' → is_as_defined reply ≡ true → is_told folder stage.moments demand ≡ true → IsToldBy told (machine_tells terms (texts_told folder) stage demand) reply stage'
+fixed_round terms told folder stage demand area journal reply stage' rest round calm fixed =
+    let t = calm_round terms told folder stage demand area journal reply stage' rest round calm fixed in
+    subst (λ (s : Told). IsToldBy told s reply stage') (told_alike terms folder t.0 stage demand t.1 fixed) t.2
 
--- After what the machine tells no reopening is due.
-machine_rests : (terms : Terms) (texts : SiteTexts) (stage : Stage) (request : Request) → stage.world.due ≡ false → (machine_tells terms texts stage request).after.world.due ≡ false
-machine_rests terms texts stage (Err refusal) rest = rest
-machine_rests terms texts stage (Ok (One event)) rest = refl
-machine_rests terms texts stage (Ok (AskedAt moment)) rest = rest
-machine_rests terms texts stage (Ok Configure) rest = refl
-machine_rests terms texts stage (Ok _) rest = rest
+-- After a round whose reply is as defined no reopening is due.
+event_settled : (terms : Terms) (told : Bool) (stage : Stage) (event : Event) (area : ℕ) (journal : Content) (reply : Reply) (stage' : Stage) → stage.world.due ≡ false → IsEvent terms told stage event area journal reply stage' → is_as_defined reply ≡ true
+    → stage'.world.due ≡ false
+event_settled terms told stage event area journal reply stage' rest turn calm =
+    ap (λ (x : World). x.due) (calm_turn terms told stage.world.history event (moment_of stage.world.clock turn.0) area reply stage'.world (turn_at_rest terms told stage.world event turn.0 area journal reply stage'.world rest turn.2) calm).1
 
--- Nor is one due after a round whose reply is no cause.
-pub calm_rests : (terms : Terms) (told : Bool) (folder : Option (List NamedText)) (stage : Stage) (request : Request) (area : ℕ) (journal : Content) (reply : Reply) (stage' : Stage) → stage.world.due ≡ false
-    → IsRoundOf terms told folder stage request area journal reply stage' → cause_of reply ≡ 0 → stage'.world.due ≡ false
-calm_rests terms told folder stage request area journal reply stage' rest round calm =
-    let t = calm_round terms told folder stage request area journal reply stage' rest round calm in
-    ap (λ (s : Stage). s.world.due) t.2.1 ∙ machine_rests terms t.0 stage request rest
+stays_settled : (stage stage' : Stage) → stage' ≡ stage → stage.world.due ≡ false → stage'.world.due ≡ false
+stays_settled stage stage' e rest = ap (λ (s : Stage). s.world.due) e ∙ rest
+
+asked_settled : (terms : Terms) (told : Bool) (folder : Option (List NamedText)) (stage : Stage) (asked : Asked) (area : ℕ) (journal : Content) (reply : Reply) (stage' : Stage) → stage.world.due ≡ false
+    → IsRoundOf terms told folder stage (Ok asked) area journal reply stage' → is_as_defined reply ≡ true → stage'.world.due ≡ false
+asked_settled terms told folder stage (One event) area journal reply stage' rest (inl lost) calm = stays_settled stage stage' lost.1 rest
+asked_settled terms told folder stage (One event) area journal reply stage' rest (inr turn) calm = event_settled terms told stage event area journal reply stage' rest turn calm
+asked_settled terms told folder stage (AskedAt moment) area journal reply stage' rest (inl lost) calm = stays_settled stage stage' lost.1 rest
+asked_settled terms told folder stage (AskedAt moment) area journal reply stage' rest (inr moved) calm = ap (λ (s : Stage). s.world.due) moved.3 ∙ rest
+asked_settled terms told folder stage Configure area journal reply stage' rest (inl unread) calm = stays_settled stage stage' unread.1 rest
+asked_settled terms told folder stage Configure area journal reply stage' rest (inr (texts, read, turn)) calm = event_settled terms told stage (ConfigureEvent texts) area journal reply stage' rest turn calm
+asked_settled terms told folder stage _ area journal reply stage' rest answers calm = stays_settled stage stage' answers.1 rest
+
+pub calm_rests : (terms : Terms) (told : Bool) (folder : Option (List NamedText)) (stage : Stage) (demand : Result Asked LineRefusal) (area : ℕ) (journal : Content) (reply : Reply) (stage' : Stage) → stage.world.due ≡ false
+    → IsRoundOf terms told folder stage demand area journal reply stage' → is_as_defined reply ≡ true → stage'.world.due ≡ false
+calm_rests terms told folder stage (Err refusal) area journal reply stage' rest answers calm = stays_settled stage stage' answers.1 rest
+calm_rests terms told folder stage (Ok asked) area journal reply stage' rest round calm = asked_settled terms told folder stage asked area journal reply stage' rest round calm
+
+-- Moments that are told stay so.
+event_known : (terms : Terms) (told : Bool) (stage : Stage) (event : Event) (area : ℕ) (journal : Content) (reply : Reply) (stage' : Stage) → IsEvent terms told stage event area journal reply stage' → is_known stage.moments ≡ true → is_known stage'.moments ≡ true
+event_known terms told stage event area journal reply stage' turn known = ap (λ (ms : Option (List ℕ)). is_known ms) (gives_told stage.moments stage'.moments turn.0 known turn.1).1 ∙ then_known stage.moments known
+
+stays_known : (stage stage' : Stage) → stage' ≡ stage → is_known stage.moments ≡ true → is_known stage'.moments ≡ true
+stays_known stage stage' e known = ap (λ (s : Stage). is_known s.moments) e ∙ known
+
+asked_known : (terms : Terms) (told : Bool) (folder : Option (List NamedText)) (stage : Stage) (asked : Asked) (area : ℕ) (journal : Content) (reply : Reply) (stage' : Stage) → IsRoundOf terms told folder stage (Ok asked) area journal reply stage'
+    → is_known stage.moments ≡ true → is_known stage'.moments ≡ true
+asked_known terms told folder stage (One event) area journal reply stage' (inl lost) known = stays_known stage stage' lost.1 known
+asked_known terms told folder stage (One event) area journal reply stage' (inr turn) known = event_known terms told stage event area journal reply stage' turn known
+asked_known terms told folder stage (AskedAt moment) area journal reply stage' (inl lost) known = stays_known stage stage' lost.1 known
+asked_known terms told folder stage (AskedAt moment) area journal reply stage' (inr moved) known = ap (λ (s : Stage). is_known s.moments) moved.3
+asked_known terms told folder stage Configure area journal reply stage' (inl unread) known = stays_known stage stage' unread.1 known
+asked_known terms told folder stage Configure area journal reply stage' (inr (texts, read, turn)) known = event_known terms told stage (ConfigureEvent texts) area journal reply stage' turn known
+asked_known terms told folder stage _ area journal reply stage' answers known = stays_known stage stage' answers.1 known
+
+round_known : (terms : Terms) (told : Bool) (folder : Option (List NamedText)) (stage : Stage) (demand : Result Asked LineRefusal) (area : ℕ) (journal : Content) (reply : Reply) (stage' : Stage) → IsRoundOf terms told folder stage demand area journal reply stage'
+    → is_known stage.moments ≡ true → is_known stage'.moments ≡ true
+round_known terms told folder stage (Err refusal) area journal reply stage' answers known = stays_known stage stage' answers.1 known
+round_known terms told folder stage (Ok asked) area journal reply stage' round known = asked_known terms told folder stage asked area journal reply stage' round known
+
+-- What moments fix, others that are told do as well.
+fixed_still : (folder : Option (List NamedText)) (moments now : Option (List ℕ)) (demand : Result Asked LineRefusal) → (is_known moments ≡ true → is_known now ≡ true) → is_told folder moments demand ≡ true → is_told folder now demand ≡ true
+fixed_still folder moments now (Err refusal) still fixed = refl
+fixed_still folder moments now (Ok (One event)) still fixed = still fixed
+fixed_still folder moments now (Ok (AskedAt moment)) still fixed = still fixed
+fixed_still folder moments now (Ok Configure) still fixed =
+    let parts = and_parts (is_known folder) (is_known moments) fixed in
+    ap (λ (b : Bool). b && is_known now) parts.0 ∙ still parts.1
+fixed_still folder moments now (Ok _) still fixed = refl
 
 answers_cause : (defined : Reply) (stage : Stage) (reply : Reply) (stage' : Stage) → cause_of defined ≡ 0 → Answers defined stage reply stage' → CauseOf reply
 answers_cause defined stage reply stage' none (inl e, same) = inl (ap cause_of e ∙ none)
@@ -116,50 +186,69 @@ answers_cause defined stage reply stage' none (inr e, same) = inr (inr (ap cause
 
 event_cause : (terms : Terms) (told : Bool) (stage : Stage) (event : Event) (area : ℕ) (journal : Content) (reply : Reply) (stage' : Stage) → stage.world.due ≡ false → IsEvent terms told stage event area journal reply stage' → CauseOf reply
 event_cause terms told stage event area journal reply stage' rest turn =
-    turn_cause terms told stage.world.history event (moment_of stage.world.clock stage.now) area reply turn.0 (turn_at_rest terms told stage.world event stage.now area journal reply turn.0 rest turn.1)
+    turn_cause terms told stage.world.history event (moment_of stage.world.clock turn.0) area reply stage'.world (turn_at_rest terms told stage.world event turn.0 area journal reply stage'.world rest turn.2)
 
 asked_cause : (terms : Terms) (told : Bool) (folder : Option (List NamedText)) (stage : Stage) (asked : Asked) (area : ℕ) (journal : Content) (reply : Reply) (stage' : Stage) → stage.world.due ≡ false
     → IsRoundOf terms told folder stage (Ok asked) area journal reply stage' → CauseOf reply
 asked_cause terms told folder stage (One event) area journal reply stage' rest (inl lost) = inr (inr (ap cause_of lost.0))
 asked_cause terms told folder stage (One event) area journal reply stage' rest (inr turn) = event_cause terms told stage event area journal reply stage' rest turn
 asked_cause terms told folder stage (AskedAt moment) area journal reply stage' rest (inl lost) = inr (inr (ap cause_of lost.0))
-asked_cause terms told folder stage (AskedAt moment) area journal reply stage' rest (inr turn) = inl (ap cause_of turn.0)
+asked_cause terms told folder stage (AskedAt moment) area journal reply stage' rest (inr moved) = inl (ap cause_of moved.2)
 asked_cause terms told folder stage Configure area journal reply stage' rest (inl (inl fault, same)) = inr (inl (ap cause_of fault, ap (λ (r : Reply). faults_of r + folder_faults_of r) fault))
 asked_cause terms told folder stage Configure area journal reply stage' rest (inl (inr lost, same)) = inr (inr (ap cause_of lost))
 asked_cause terms told folder stage Configure area journal reply stage' rest (inr (texts, read, turn)) = event_cause terms told stage (ConfigureEvent texts) area journal reply stage' rest turn
 asked_cause terms told folder stage _ area journal reply stage' rest answers = answers_cause (Line NotACommand) stage reply stage' refl answers
 
 -- Where no reopening is due, a reply is no cause, a fault of the store or of the folder, or want of memory.
-pub round_cause : (terms : Terms) (told : Bool) (folder : Option (List NamedText)) (stage : Stage) (request : Request) (area : ℕ) (journal : Content) (reply : Reply) (stage' : Stage) → stage.world.due ≡ false
-    → IsRoundOf terms told folder stage request area journal reply stage' → CauseOf reply
+pub round_cause : (terms : Terms) (told : Bool) (folder : Option (List NamedText)) (stage : Stage) (demand : Result Asked LineRefusal) (area : ℕ) (journal : Content) (reply : Reply) (stage' : Stage) → stage.world.due ≡ false
+    → IsRoundOf terms told folder stage demand area journal reply stage' → CauseOf reply
 round_cause terms told folder stage (Err refusal) area journal reply stage' rest answers = answers_cause (Line refusal) stage reply stage' refl answers
 round_cause terms told folder stage (Ok asked) area journal reply stage' rest round = asked_cause terms told folder stage asked area journal reply stage' rest round
 
--- Up to the first reply that is a cause, and the first request that the folder does not fix, all replies and stages are the
+-- Up to the first fault or want of memory, and the first request that folder and clock do not fix, all replies and stages are the
 -- machine's.
-pub fixed_run : (terms : Terms) (told : Bool) (folder : Option (List NamedText)) (stage : Stage) (rs : List Round) (more : List Request) → stage.world.due ≡ false → IsRun terms told folder stage rs
-    → AreTold told (calm folder rs) (machine_run terms (texts_told folder) stage (take (length (calm folder rs)) (asked rs ++ more)))
-fixed_run terms told folder stage [] more rest run = tt
-fixed_run terms told folder stage (x ∷ rs) more rest run =
-    elim (nat_eq (cause_of x.reply) 0 && is_told folder x.asked) as (λ b. (nat_eq (cause_of x.reply) 0 && is_told folder x.asked) ≡ b
-    → AreTold told (cond b (x ∷ calm folder rs) []) (machine_run terms (texts_told folder) stage (take (length (cond b (x ∷ calm folder rs) [])) (x.asked ∷ (asked rs ++ more))))) [
-      | true ↦ (λ e. let parts = and_parts (nat_eq (cause_of x.reply) 0) (is_told folder x.asked) e in
-          here (eqb-true (cause_of x.reply) 0 parts.0) parts.1 (λ h. fixed_run terms told folder x.after rs more h run.1))
+pub fixed_run : (terms : Terms) (told : Bool) (folder : Option (List NamedText)) (moments : Option (List ℕ)) (stage : Stage) (rs : List Round) (more : List Request) → stage.world.due ≡ false → (is_known moments ≡ true → is_known stage.moments ≡ true)
+    → IsRun terms told folder stage rs → AreTold told (calm folder moments rs) (machine_run terms (texts_told folder) stage (take (length (calm folder moments rs)) (asked rs ++ more)))
+fixed_run terms told folder moments stage [] more rest still run = tt
+fixed_run terms told folder moments stage (x ∷ rs) more rest still run =
+    elim (is_as_defined x.reply && is_told folder moments x.request.asked) as (λ b. (is_as_defined x.reply && is_told folder moments x.request.asked) ≡ b
+    → AreTold told (cond b (x ∷ calm folder moments rs) []) (machine_run terms (texts_told folder) stage (take (length (cond b (x ∷ calm folder moments rs) [])) (x.request ∷ (asked rs ++ more))))) [
+      | true ↦ (λ e. let parts = and_parts (is_as_defined x.reply) (is_told folder moments x.request.asked) e in
+          here parts.0 (fixed_still folder moments stage.moments x.request.asked still parts.1)
+          (λ h. fixed_run terms told folder moments x.after rs more h (λ known. round_known terms told folder stage x.request.asked x.area x.journal x.reply x.after run.0 (still known)) run.1))
       | false ↦ (λ e. tt)
     ] refl
   where
-    here : cause_of x.reply ≡ 0 → is_told folder x.asked ≡ true
-        → (x.after.world.due ≡ false → AreTold told (calm folder rs) (machine_run terms (texts_told folder) x.after (take (length (calm folder rs)) (asked rs ++ more))))
-        → AreTold told (x ∷ calm folder rs) (machine_run terms (texts_told folder) stage (take (length (x ∷ calm folder rs)) (x.asked ∷ (asked rs ++ more))))
+    here : is_as_defined x.reply ≡ true → is_told folder stage.moments x.request.asked ≡ true
+        → (x.after.world.due ≡ false → AreTold told (calm folder moments rs) (machine_run terms (texts_told folder) x.after (take (length (calm folder moments rs)) (asked rs ++ more))))
+        → AreTold told (x ∷ calm folder moments rs) (machine_run terms (texts_told folder) stage (take (length (x ∷ calm folder moments rs)) (x.request ∷ (asked rs ++ more))))
     here calm_reply fixed behind_it =
-        let same = fixed_round terms told folder stage x.asked x.area x.journal x.reply x.after rest run.0 calm_reply fixed in
-        let behind = behind_it (calm_rests terms told folder stage x.asked x.area x.journal x.reply x.after rest run.0 calm_reply) in
-        (same.0, same.1, subst (λ (s : Stage). AreTold told (calm folder rs) (machine_run terms (texts_told folder) s (take (length (calm folder rs)) (asked rs ++ more)))) same.1 behind)
+        let same = fixed_round terms told folder stage x.request.asked x.area x.journal x.reply x.after rest run.0 calm_reply fixed in
+        let behind = behind_it (calm_rests terms told folder stage x.request.asked x.area x.journal x.reply x.after rest run.0 calm_reply) in
+        (same.0, same.1, subst (λ (s : Stage). AreTold told (calm folder moments rs) (machine_run terms (texts_told folder) s (take (length (calm folder moments rs)) (asked rs ++ more)))) same.1 behind)
 
--- What rounds write, where the store tells its content, is what the machine tells.
-pub output_told : (told : Bool) (rs : List Round) (ts : List Told) → IsTrue told → AreTold told rs ts → output rs ≡ flat_map (λ (t : Told). text_of t.reply) ts
-output_told true [] [] tells h = refl
-output_told true [] (t ∷ ts) tells h = absurd h
-output_told true (x ∷ rs) [] tells h = absurd h
-output_told true (x ∷ rs) (t ∷ ts) tells h = ap (λ (r : Reply). text_of r ++ output rs) h.0 ∙ ap (λ (l : List ℕ). text_of t.reply ++ l) (output_told true rs ts tells h.2)
-output_told false rs ts tells h = absurd (let no : false ≡ true = tells in cc)
+-- What rounds write, where the store tells its content and none of them ends the session, is what the machine writes.
+pub output_told : (terms : Terms) (texts : SiteTexts) (told : Bool) (stage : Stage) (rs : List Round) → IsTrue told → GoOn rs → AreTold told rs (machine_run terms texts stage (asked rs)) → output rs ≡ output_of terms texts stage (asked rs)
+output_told terms texts true stage [] tells on h = refl
+output_told terms texts true stage (x ∷ rs) tells on h =
+    let t = machine_tells terms texts stage x.request.asked in
+    let goes : x.request.closes t.reply ≡ false = sym (ap (λ (r : Reply). x.request.closes r) h.0) ∙ on.0 in
+    ap (λ (r : Reply). x.request.text r ++ output rs) h.0
+    ∙ ap (λ (l : List ℕ). x.request.text t.reply ++ l)
+    (output_told terms texts true t.after rs tells on.1 h.2 ∙ sym (ap (λ (b : Bool). cond b [] (output_of terms texts t.after (asked rs))) goes))
+output_told terms texts false stage rs tells on h = absurd (let no : false ≡ true = tells in cc)
+
+-- So it is up to the first one that ends the session, whatever is asked behind it.
+pub output_closed : (terms : Terms) (texts : SiteTexts) (told : Bool) (stage : Stage) (rs : List Round) (last : Round) (more : List Request) → IsTrue told → GoOn rs → last.request.closes last.reply ≡ true
+    → AreTold told (rs ++ last ∷ []) (machine_run terms texts stage (asked (rs ++ last ∷ []))) → output (rs ++ last ∷ []) ≡ output_of terms texts stage (asked (rs ++ last ∷ []) ++ more)
+output_closed terms texts true stage [] last more tells on ends h =
+    let t = machine_tells terms texts stage last.request.asked in
+    let stops : last.request.closes t.reply ≡ true = sym (ap (λ (r : Reply). last.request.closes r) h.0) ∙ ends in
+    ap (λ (r : Reply). last.request.text r ++ []) h.0 ∙ ap (λ (l : List ℕ). last.request.text t.reply ++ l) (sym (ap (λ (b : Bool). cond b [] (output_of terms texts t.after more)) stops))
+output_closed terms texts true stage (x ∷ rs) last more tells on ends h =
+    let t = machine_tells terms texts stage x.request.asked in
+    let goes : x.request.closes t.reply ≡ false = sym (ap (λ (r : Reply). x.request.closes r) h.0) ∙ on.0 in
+    ap (λ (r : Reply). x.request.text r ++ output (rs ++ last ∷ [])) h.0
+    ∙ ap (λ (l : List ℕ). x.request.text t.reply ++ l)
+    (output_closed terms texts true t.after rs last more tells on.1 ends h.2 ∙ sym (ap (λ (b : Bool). cond b [] (output_of terms texts t.after (asked (rs ++ last ∷ []) ++ more))) goes))
+output_closed terms texts false stage rs last more tells on ends h = absurd (let no : false ≡ true = tells in cc)

@@ -1,5 +1,5 @@
 -- One round from its parts.
-use Rattle.std.proofs.Common.{◌≡◌, ◌+◌, ℕ, List, length, refl, ◌∙◌, ap, subst, Option, Bool, IsTrue}
+use Rattle.std.proofs.Common.{◌≡◌, ◌+◌, ℕ, List, length, refl, sym, ◌∙◌, ap, subst, Option, Bool, IsTrue}
 use Rattle.base.specs.Causes.{AreCounted}
 use Rattle.outside.specs.declared.folder.NamedText.{NamedText}
 use Rattle.bank.specs.Content.{Image}
@@ -9,8 +9,9 @@ use Rattle.site_history.specs.Terms.{Terms}
 use Rattle.site_history.specs.Worlds.{World}
 use Rattle.site_history.specs.Images.{ReadsAs}
 use Rattle.engine.specs.declared.kept.Engine.{Engine}
-use Rattle.engine.specs.StandsFor.{StandsFor, Moves}
-use Rattle.session.specs.Asking.{Request}
+use Rattle.engine.specs.StandsFor.{StandsFor}
+use Rattle.session.specs.Requests.{Request}
+use Rattle.session.specs.Standing.{StandsAt, IsMoved}
 use Rattle.session.specs.Rounds.{Stage, Round, IsRoundOf, first_of, cause_of, faults_of, journal_faults_of, folder_faults_of, mark_of}
 use Rattle.session.specs.OneRound.{IsRound, Tells}
 use Rattle.session.proofs.KeptLaws.{reads_since}
@@ -22,39 +23,41 @@ images_since : (terms : Terms) → {B P : Type 0} (told : Bool) (view : B → Vi
     → IsTrue told → (c : Image) → (view engine.bank).left_since (view engine.bank).moment c → ReadsAs terms w c
 images_since terms told view engine w sound stands t c left = (stands.images t c ((sound t).only_now c left))
 
--- A round from the stage at which an engine stands, by its answer and its mark.
-pub made : (terms : Terms) → {B P : Type 0} (told : Bool) (view : B → View) (engine engine' : Engine B P) (folder : Option (List NamedText)) (stage : Stage) (request : Request) (reply : Reply) (now' : ℕ)
-    (written written' : Option (List ℕ)) (faults faults' folder_faults folder_faults' bank_faults bank_faults' journal_faults journal_faults' last_fault : ℕ) (marks mid marks' : List Mark) (status status' : ℕ) (end : Option Ending) (mark : Mark)
+-- A round from the stage at which a session stands, by its answer and its mark.
+pub made : (terms : Terms) → {B P : Type 0} (told : Bool) (view : B → View) (engine engine' : Engine B P) (own_moment' : Option ℕ) (clock' : Option (List ℕ)) (folder : Option (List NamedText)) (stage : Stage) (request : Request) (reply : Reply)
+    (written written' : Option (List ℕ)) (faults faults' folder_faults folder_faults' bank_faults bank_faults' journal_faults journal_faults' last_fault : ℕ) (marks mid marks' : List Mark) (status status' : ℕ) (end : Option Ending)
+    (text : List ℕ) (closes : Bool) (mark : Mark)
     → (IsTrue told → IsSound (view engine.bank)) → (IsTrue told → IsSound (view engine'.bank))
-    → (stage' : Stage) × IsRoundOf terms told folder stage request last_fault ((view engine.bank).content 0) reply stage' × Moves terms told view engine engine' stage.world stage'.world × (now' ≡ stage'.now)
+    → (stage' : Stage) × IsRoundOf terms told folder stage request.asked last_fault ((view engine.bank).content 0) reply stage' × IsMoved terms told view engine engine' own_moment' clock' stage stage'
     × AreCounted folder_faults (folder_faults_of reply) folder_faults'
     → status' ≡ first_of status (cause_of reply) → AreCounted bank_faults (faults_of reply) bank_faults'
     → AreCounted journal_faults (journal_faults_of reply last_fault) journal_faults'
     → mid ≡ marks → mark.answered ≡ length mid + 1 → ((w : World) → StandsFor terms told view engine' w → mark.steps ≡ length w.history) → (IsTrue told → mark.moment ≡ (view engine'.bank).moment)
-    → Tells written written' faults faults' mid marks' end reply mark
-    → (round : Round) × IsRound terms (StandsFor terms told view engine') told folder (view engine.bank) (view engine'.bank) stage request
-    written written' faults faults' folder_faults folder_faults' bank_faults bank_faults' journal_faults journal_faults' last_fault marks marks' status status' end round × (now' ≡ round.after.now)
-made terms told view engine engine' folder stage request reply now' written written' faults faults' folder_faults folder_faults' bank_faults bank_faults' journal_faults journal_faults' last_fault marks mid marks' status status' end mark sound_before sound turn cause counted journal_counted same answered steps at_moment tells = (
-  record { asked = request; reply = reply; after = turn.0; area = last_fault; journal = (view engine.bank).content 0; moment = mark.moment },
+    → request.text reply ≡ text → request.closes reply ≡ closes → Tells written written' faults faults' mid marks' end text closes mark
+    → (round : Round) × IsRound terms (StandsAt terms told view engine' own_moment' clock') told folder (view engine.bank) (view engine'.bank) stage request
+    written written' faults faults' folder_faults folder_faults' bank_faults bank_faults' journal_faults journal_faults' last_fault marks marks' status status' end round
+made terms told view engine engine' own_moment' clock' folder stage request reply written written' faults faults' folder_faults folder_faults' bank_faults bank_faults' journal_faults journal_faults' last_fault marks mid marks' status status' end text closes mark sound_before sound turn cause counted journal_counted same answered steps at_moment is_text is_last tells = (
+  record { request = request; reply = reply; after = turn.0; area = last_fault; journal = (view engine.bank).content 0; moment = mark.moment },
   record {
     same = refl;
     turn = turn.1;
-    stands = turn.2.stands;
+    stands = record { world = turn.2.world.stands; moments = turn.2.moments };
     first_cause = cause;
     counted = counted;
     area = refl;
     journal_counted = journal_counted;
-    journal_stood = λ t. ((view engine.bank).content, reads_since _ _ _ (sound_before t) (turn.2.moments t), refl);
-    folder_counted = turn.4;
+    journal_stood = λ t. ((view engine.bank).content, reads_since _ _ _ (sound_before t) (turn.2.world.moments t), refl);
+    folder_counted = turn.3;
     moment = at_moment;
-    meanwhile = turn.2.moments;
-    since = images_since terms told view engine' turn.0.world sound turn.2.stands;
-    tells_answer = subst (λ (ms : List Mark). Tells written written' faults faults' ms marks' end reply (mark_of (length ms + 1) (record { asked = request; reply = reply; after = turn.0; area = last_fault; journal = (view engine.bank).content 0; moment = mark.moment }))) same
-        (subst (λ (m : Mark). Tells written written' faults faults' mid marks' end reply m) same_mark tells);
+    meanwhile = turn.2.world.moments;
+    since = images_since terms told view engine' turn.0.world sound turn.2.world.stands;
+    tells_answer = subst (λ (ms : List Mark). Tells written written' faults faults' ms marks' end (request.text reply) (request.closes reply) (mark_of (length ms + 1) (record { request = request; reply = reply; after = turn.0; area = last_fault; journal = (view engine.bank).content 0; moment = mark.moment }))) same
+        (subst (λ (m : Mark). Tells written written' faults faults' mid marks' end (request.text reply) (request.closes reply) m) same_mark
+        (subst (λ (t : List ℕ). Tells written written' faults faults' mid marks' end t (request.closes reply) mark) (sym is_text)
+        (subst (λ (b : Bool). Tells written written' faults faults' mid marks' end text b mark) (sym is_last) tells)));
   },
-  turn.3,
 )
   where
-    same_mark : mark ≡ mark_of (length mid + 1) (record { asked = request; reply = reply; after = turn.0; area = last_fault; journal = (view engine.bank).content 0; moment = mark.moment })
+    same_mark : mark ≡ mark_of (length mid + 1) (record { request = request; reply = reply; after = turn.0; area = last_fault; journal = (view engine.bank).content 0; moment = mark.moment })
     same_mark = ap (λ (n : ℕ). let m : Mark = record { answered = n; steps = mark.steps; moment = mark.moment } in m) answered
-        ∙ ap (λ (n : ℕ). let m : Mark = record { answered = length mid + 1; steps = n; moment = mark.moment } in m) (steps turn.0.world turn.2.stands)
+        ∙ ap (λ (n : ℕ). let m : Mark = record { answered = length mid + 1; steps = n; moment = mark.moment } in m) (steps turn.0.world turn.2.world.stands)

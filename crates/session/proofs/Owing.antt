@@ -1,5 +1,5 @@
 -- A step is owed only after a fault of the journal.
-use Rattle.std.proofs.Common.{◌≡◌, inl, inr, ℕ, zero, suc, List, [], ◌∷◌, refl, ◌∙◌, ap, arith, Bool, true, false, ◌==◌, Option, None, Ok, Err}
+use Rattle.std.proofs.Common.{◌≡◌, inl, inr, ℕ, zero, suc, List, [], ◌∷◌, refl, ◌∙◌, ap, arith, Bool, true, false, ◌==◌, Option, None, Result, Ok, Err}
 use Rattle.std.specs.Prelude.{if◌then◌else◌}
 use Rattle.base.specs.Causes.{Rose, AreCounted}
 use Rattle.outside.specs.declared.folder.NamedText.{NamedText}
@@ -8,13 +8,13 @@ use Rattle.site_events.specs.declared.event.Asked.{Asked}
 use Rattle.site_events.specs.declared.event.Asked.TheVariants.{One, At as AskedAt, Configure}
 use Rattle.site_events.specs.declared.event.Event.{Event}
 use Rattle.site_events.specs.declared.event.Event.TheVariants.{Configure as ConfigureEvent}
+use Rattle.site_events.specs.declared.reply.LineRefusal.{LineRefusal}
 use Rattle.site_events.specs.declared.reply.Reply.{Reply}
 use Rattle.site_events.specs.declared.reply.Reply.TheVariants.{BankFault, NoMemory}
 use Rattle.site_history.specs.Terms.{Terms}
 use Rattle.site_history.specs.Steps.{HistoryStep}
 use Rattle.site_history.specs.Replies.{Answer}
 use Rattle.site_history.specs.Worlds.{World, Turn, TurnBy, Owes, Stays, answer_in, moment_of}
-use Rattle.session.specs.Asking.{Request}
 use Rattle.session.specs.Rounds.{Stage, Round, IsEvent, IsRoundOf, IsRun, stage_after, journal_faults_of, journal_faults_in}
 use Rattle.session.proofs.MachineLaws.{turn_at_rest}
 
@@ -40,8 +40,7 @@ turn_rests terms told history event moment area _ w' turn none = (ap (λ (x : Wo
 event_rests : (terms : Terms) (told : Bool) (stage : Stage) (event : Event) (area : ℕ) (journal : Content) (reply : Reply) (stage' : Stage) → Rests stage.world
     → IsEvent terms told stage event area journal reply stage' → journal_faults_of reply area ≡ 0 → Rests stage'.world
 event_rests terms told stage event area journal reply stage' rest turn none =
-    rests_alike turn.0 stage'.world (ap (λ (s : Stage). s.world) turn.2)
-    (turn_rests terms told stage.world.history event (moment_of stage.world.clock stage.now) area reply turn.0 (turn_at_rest terms told stage.world event stage.now area journal reply turn.0 rest.0 turn.1) none)
+    turn_rests terms told stage.world.history event (moment_of stage.world.clock turn.0) area reply stage'.world (turn_at_rest terms told stage.world event turn.0 area journal reply stage'.world rest.0 turn.2) none
 
 stage_rests : (stage stage' : Stage) → stage' ≡ stage → Rests stage.world → Rests stage'.world
 stage_rests stage stage' e rest = rests_alike stage.world stage'.world (ap (λ (s : Stage). s.world) e) rest
@@ -51,12 +50,12 @@ asked_rests : (terms : Terms) (told : Bool) (folder : Option (List NamedText)) (
 asked_rests terms told folder stage (One event) area journal reply stage' rest (inl lost) none = stage_rests stage stage' lost.1 rest
 asked_rests terms told folder stage (One event) area journal reply stage' rest (inr turn) none = event_rests terms told stage event area journal reply stage' rest turn none
 asked_rests terms told folder stage (AskedAt moment) area journal reply stage' rest (inl lost) none = stage_rests stage stage' lost.1 rest
-asked_rests terms told folder stage (AskedAt moment) area journal reply stage' rest (inr moved) none = rests_alike stage.world stage'.world (ap (λ (s : Stage). s.world) moved.1) rest
+asked_rests terms told folder stage (AskedAt moment) area journal reply stage' rest (inr moved) none = rests_alike stage.world stage'.world (ap (λ (s : Stage). s.world) moved.3) rest
 asked_rests terms told folder stage Configure area journal reply stage' rest (inl unread) none = stage_rests stage stage' unread.1 rest
 asked_rests terms told folder stage Configure area journal reply stage' rest (inr (texts, read, turn)) none = event_rests terms told stage (ConfigureEvent texts) area journal reply stage' rest turn none
 asked_rests terms told folder stage _ area journal reply stage' rest answers none = stage_rests stage stage' answers.1 rest
 
-round_rests : (terms : Terms) (told : Bool) (folder : Option (List NamedText)) (stage : Stage) (request : Request) (area : ℕ) (journal : Content) (reply : Reply) (stage' : Stage) → Rests stage.world
+round_rests : (terms : Terms) (told : Bool) (folder : Option (List NamedText)) (stage : Stage) (request : Result Asked LineRefusal) (area : ℕ) (journal : Content) (reply : Reply) (stage' : Stage) → Rests stage.world
     → IsRoundOf terms told folder stage request area journal reply stage' → journal_faults_of reply area ≡ 0 → Rests stage'.world
 round_rests terms told folder stage (Err refusal) area journal reply stage' rest answers none = stage_rests stage stage' answers.1 rest
 round_rests terms told folder stage (Ok asked) area journal reply stage' rest round none = asked_rests terms told folder stage asked area journal reply stage' rest round none
@@ -66,7 +65,7 @@ run_rests : (terms : Terms) (told : Bool) (folder : Option (List NamedText)) (st
 run_rests terms told folder stage [] rest run none = rest
 run_rests terms told folder stage (x ∷ rs) rest run none =
     run_rests terms told folder x.after rs
-    (round_rests terms told folder stage x.asked x.area x.journal x.reply x.after rest run.0 (omega (arith, none))) run.1 (omega (arith, none))
+    (round_rests terms told folder stage x.request.asked x.area x.journal x.reply x.after rest run.0 (omega (arith, none))) run.1 (omega (arith, none))
 
 -- No fault was told where the count did not rise.
 none_told : (before n now : ℕ) → AreCounted before n now → (Rose before now → ⊥) → n ≡ 0

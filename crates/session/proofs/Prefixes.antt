@@ -1,5 +1,5 @@
 -- What a crash leaves holds each step that was acknowledged.
-use Rattle.std.proofs.Common.{◌≡◌, ◌⊎◌, inl, inr, ℕ, ◌+◌, List, [], ◌∷◌, ◌++◌, length, take, refl, sym, ◌∙◌, ap, Bool, true, false, Option, Some, None, Ok, Err, append_assoc}
+use Rattle.std.proofs.Common.{◌≡◌, ◌⊎◌, inl, inr, ℕ, ◌+◌, List, [], ◌∷◌, ◌++◌, length, take, refl, sym, ◌∙◌, ap, Bool, true, false, Option, Some, None, Result, Ok, Err, append_assoc}
 use Rattle.std.proofs.lemmas.List.{append-nil}
 use Rattle.std.proofs.Math.Seq.{take-append_seam}
 use Rattle.outside.specs.declared.folder.NamedText.{NamedText}
@@ -9,13 +9,13 @@ use Rattle.site_events.specs.declared.event.Asked.{Asked}
 use Rattle.site_events.specs.declared.event.Asked.TheVariants.{One, At as AskedAt, Configure}
 use Rattle.site_events.specs.declared.event.Event.{Event}
 use Rattle.site_events.specs.declared.event.Event.TheVariants.{Configure as ConfigureEvent}
+use Rattle.site_events.specs.declared.reply.LineRefusal.{LineRefusal}
 use Rattle.site_events.specs.declared.reply.Reply.{Reply}
 use Rattle.site_history.specs.Terms.{Terms}
 use Rattle.site_history.specs.Steps.{HistoryStep}
 use Rattle.site_history.specs.Replies.{Answer}
 use Rattle.site_history.specs.Worlds.{World, with_step, answer_in, moment_of, clock_from, TurnBy, Course, Goes, Stays, Owes, course_of, EventTurnBy}
 use Rattle.site_history.specs.Images.{Reads, ReadsAs}
-use Rattle.session.specs.Asking.{Request}
 use Rattle.session.specs.Rounds.{Stage, Round, IsEvent, IsRoundOf, IsRun, stage_after, marks_from}
 use Rattle.session.specs.Kept.{AreKept, BeginsWith, AreHeld}
 
@@ -57,7 +57,7 @@ stage_alike stage stage' e = alike stage.world.history stage.world.history stage
 
 stage_event : (terms : Terms) (stage : Stage) (event : Event) (area : ℕ) (journal : Content) (reply : Reply) (stage' : Stage) → IsEvent terms true stage event area journal reply stage' → BeginsWith stage.world.history stage'.world.history
 stage_event terms stage event area journal reply stage' turn =
-    alike stage.world.history turn.0.history stage'.world.history (ap (λ (s : Stage). s.world.history) turn.2) (event_begins terms stage.world.due stage.world event stage.now area journal reply turn.0 turn.1)
+    event_begins terms stage.world.due stage.world event turn.0 area journal reply stage'.world turn.2
 
 asked_begins : (terms : Terms) (folder : Option (List NamedText)) (stage : Stage) (asked : Asked) (area : ℕ) (journal : Content) (reply : Reply) (stage' : Stage) → IsRoundOf terms true folder stage (Ok asked) area journal reply stage'
     → BeginsWith stage.world.history stage'.world.history
@@ -65,12 +65,12 @@ asked_begins terms folder stage (One event) area journal reply stage' (inl lost)
 asked_begins terms folder stage (One event) area journal reply stage' (inr turn) = stage_event terms stage event area journal reply stage' turn
 asked_begins terms folder stage (AskedAt moment) area journal reply stage' (inl lost) = stage_alike stage stage' lost.1
 asked_begins terms folder stage (AskedAt moment) area journal reply stage' (inr moved) =
-    alike stage.world.history stage.world.history stage'.world.history (ap (λ (s : Stage). s.world.history) moved.1) (whole stage.world.history)
+    alike stage.world.history stage.world.history stage'.world.history (ap (λ (s : Stage). s.world.history) moved.3) (whole stage.world.history)
 asked_begins terms folder stage Configure area journal reply stage' (inl unread) = stage_alike stage stage' unread.1
 asked_begins terms folder stage Configure area journal reply stage' (inr (texts, read, turn)) = stage_event terms stage (ConfigureEvent texts) area journal reply stage' turn
 asked_begins terms folder stage _ area journal reply stage' answers = stage_alike stage stage' answers.1
 
-round_begins : (terms : Terms) (folder : Option (List NamedText)) (stage : Stage) (request : Request) (area : ℕ) (journal : Content) (reply : Reply) (stage' : Stage) → IsRoundOf terms true folder stage request area journal reply stage'
+round_begins : (terms : Terms) (folder : Option (List NamedText)) (stage : Stage) (request : Result Asked LineRefusal) (area : ℕ) (journal : Content) (reply : Reply) (stage' : Stage) → IsRoundOf terms true folder stage request area journal reply stage'
     → BeginsWith stage.world.history stage'.world.history
 round_begins terms folder stage (Err refusal) area journal reply stage' answers = stage_alike stage stage' answers.1
 round_begins terms folder stage (Ok asked) area journal reply stage' round = asked_begins terms folder stage asked area journal reply stage' round
@@ -81,7 +81,7 @@ run_begins : (terms : Terms) (folder : Option (List NamedText)) (stage : Stage) 
 run_begins terms folder stage [] run = whole stage.world.history
 run_begins terms folder stage (x ∷ rounds) run =
     longer stage.world.history x.after.world.history (stage_after x.after rounds).world.history
-    (round_begins terms folder stage x.asked x.area x.journal x.reply x.after run.0) (run_begins terms folder x.after rounds run.1)
+    (round_begins terms folder stage x.request.asked x.area x.journal x.reply x.after run.0) (run_begins terms folder x.after rounds run.1)
 
 -- An image that reads as a world reads as a history that begins with the world's.
 read_begins : (terms : Terms) (c : Image) (front : List HistoryStep) (w : World) → BeginsWith front w.history → ReadsAs terms w c → (steps : List HistoryStep) × Reads terms c steps × BeginsWith front steps
@@ -95,7 +95,7 @@ since_begins terms folder v from stage [] kept run c left = read_begins terms c 
 since_begins terms folder v from stage (x ∷ rounds) kept run c left = by_time (kept.0 c left) (since_begins terms folder v x.moment x.after rounds kept.1 run.1 c)
   where
     begins : BeginsWith stage.world.history x.after.world.history
-    begins = round_begins terms folder stage x.asked x.area x.journal x.reply x.after run.0
+    begins = round_begins terms folder stage x.request.asked x.area x.journal x.reply x.after run.0
 
     by_time : v.left_since x.moment c ⊎ (ReadsAs terms stage.world c ⊎ ReadsAs terms x.after.world c)
         → (v.left_since x.moment c → (steps : List HistoryStep) × Reads terms c steps × BeginsWith x.after.world.history steps)

@@ -1,6 +1,7 @@
 -- What is answered to what was asked, and where the engine stands then.
-use Rattle.std.proofs.Common.{◌≡◌, ◌⊎◌, inl, inr, ℕ, ◌≤◌, List, refl, sym, ◌∙◌, ap, subst, arith, Bool, true, false, IsTrue, Option, Result, Ok, Err}
+use Rattle.std.proofs.Common.{◌≡◌, ◌⊎◌, inl, inr, ℕ, ◌≤◌, List, refl, sym, ◌∙◌, ap, subst, arith, Bool, true, false, IsTrue, Option, Some, IfSome, Result, Ok, Err}
 use Rattle.std.specs.Prelude.{max, ◌==◌, if◌then◌else◌}
+use Rattle.outside.specs.Moments.{Gives, next_moment}
 use Rattle.std.proofs.lemmas.Bool.{eqb-true}
 use Rattle.base.specs.Causes.{Rose, AreCounted}
 use Rattle.outside.specs.declared.folder.NamedText.{NamedText}
@@ -21,10 +22,11 @@ use Rattle.site_history.specs.Terms.{Terms}
 use Rattle.site_history.specs.Worlds.{World, EventTurn}
 use Rattle.site_history.specs.Images.{ReadsAs}
 use Rattle.engine.specs.declared.kept.Engine.{Engine}
-use Rattle.engine.specs.StandsFor.{StandsFor, Moves}
-use Rattle.session.specs.Asking.{Request, reply_to}
+use Rattle.engine.specs.StandsFor.{Moves}
+use Rattle.session.specs.Requests.{reply_to}
 use Rattle.session.specs.Hearing.{IsReadAs}
-use Rattle.session.specs.Rounds.{Stage, IsRoundOf, faults_of, journal_faults_of, folder_faults_of}
+use Rattle.session.specs.Rounds.{Stage, own, moments_of, IsEvent, IsRoundOf, faults_of, journal_faults_of, folder_faults_of}
+use Rattle.session.specs.Standing.{StandsAt, IsMoved}
 use Rattle.session.proofs.AnswerCauses.{event_folder}
 
 -- A reply that tells a fault comes where the store counted one.
@@ -42,7 +44,7 @@ counted_journal BankFault area before now fault later = by_area (area == 0) refl
 counted_journal _ area before now fault later = omega (arith, later)
 
 -- Want of memory may be answered to any request.
-memory_lost : (terms : Terms) (told : Bool) (folder : Option (List NamedText)) (stage : Stage) (request : Request) (area : ℕ) (journal : Content) → IsRoundOf terms told folder stage request area journal NoMemory stage
+memory_lost : (terms : Terms) (told : Bool) (folder : Option (List NamedText)) (stage : Stage) (demand : Result Asked LineRefusal) (area : ℕ) (journal : Content) → IsRoundOf terms told folder stage demand area journal NoMemory stage
 memory_lost terms told folder stage (Err refusal) area journal = (inr refl, refl)
 memory_lost terms told folder stage (Ok (One event)) area journal = inl (refl, refl)
 memory_lost terms told folder stage (Ok (AskedAt moment)) area journal = inl (refl, refl)
@@ -50,13 +52,13 @@ memory_lost terms told folder stage (Ok Configure) area journal = inl (inr refl,
 memory_lost terms told folder stage (Ok _) area journal = (inr refl, refl)
 
 -- What was read, where it is the same.
-pub read_alike : (asked same : Result Asked LineRefusal) (request : Request) → asked ≡ same → IsReadAs asked request → IsReadAs same request
-read_alike asked same request e read = subst (λ (a : Result Asked LineRefusal). IsReadAs a request) e read
+pub read_alike : (asked same : Result Asked LineRefusal) (demand : Result Asked LineRefusal) → asked ≡ same → IsReadAs asked demand → IsReadAs same demand
+read_alike asked same demand e read = subst (λ (a : Result Asked LineRefusal). IsReadAs a demand) e read
 
 -- What was read is the request, unless no memory was found for it.
-request_read : (asked : Asked) (request : Request) → IsReadAs (Ok asked) request → Ok asked ≡ request
-request_read asked request (inl e) = e
-request_read asked request (inr e) = absurd (cc)
+request_read : (asked : Asked) (demand : Result Asked LineRefusal) → IsReadAs (Ok asked) demand → Ok asked ≡ demand
+request_read asked demand (inl e) = e
+request_read asked demand (inr e) = absurd (cc)
 
 -- What is asked otherwise than by an event, a moment or `configure` is no command.
 no_command : (terms : Terms) (told : Bool) (folder : Option (List NamedText)) (stage : Stage) (asked : Asked) (area : ℕ) (journal : Content) → ((event : Event) → asked ≡ One event → ⊥)
@@ -67,15 +69,15 @@ no_command terms told folder stage Configure area journal not_one not_at not_con
 no_command terms told folder stage _ area journal not_one not_at not_configure = (inl refl, refl)
 
 -- A refused line is answered as it is defined.
-refused_round : (terms : Terms) (told : Bool) (folder : Option (List NamedText)) (stage : Stage) (refusal : LineRefusal) (request : Request) (area : ℕ) (journal : Content) → IsReadAs (Err refusal) request
-    → IsRoundOf terms told folder stage request area journal (reply_to refusal) stage
-refused_round terms told folder stage WantOfMemory request area journal read = memory_lost terms told folder stage request area journal
-refused_round terms told folder stage NotACommand request area journal (inl e) = subst (λ (r : Request). IsRoundOf terms told folder stage r area journal (Line NotACommand) stage) e (inl refl, refl)
-refused_round terms told folder stage NotACommand request area journal (inr e) = absurd (cc)
-refused_round terms told folder stage (BadWord number) request area journal (inl e) = subst (λ (r : Request). IsRoundOf terms told folder stage r area journal (Line (BadWord number)) stage) e (inl refl, refl)
-refused_round terms told folder stage (BadWord number) request area journal (inr e) = absurd (cc)
-refused_round terms told folder stage LineTooLong request area journal (inl e) = subst (λ (r : Request). IsRoundOf terms told folder stage r area journal (Line LineTooLong) stage) e (inl refl, refl)
-refused_round terms told folder stage LineTooLong request area journal (inr e) = absurd (cc)
+refused_round : (terms : Terms) (told : Bool) (folder : Option (List NamedText)) (stage : Stage) (refusal : LineRefusal) (demand : Result Asked LineRefusal) (area : ℕ) (journal : Content) → IsReadAs (Err refusal) demand
+    → IsRoundOf terms told folder stage demand area journal (reply_to refusal) stage
+refused_round terms told folder stage WantOfMemory demand area journal read = memory_lost terms told folder stage demand area journal
+refused_round terms told folder stage NotACommand demand area journal (inl e) = subst (λ (r : Result Asked LineRefusal). IsRoundOf terms told folder stage r area journal (Line NotACommand) stage) e (inl refl, refl)
+refused_round terms told folder stage NotACommand demand area journal (inr e) = absurd (cc)
+refused_round terms told folder stage (BadWord number) demand area journal (inl e) = subst (λ (r : Result Asked LineRefusal). IsRoundOf terms told folder stage r area journal (Line (BadWord number)) stage) e (inl refl, refl)
+refused_round terms told folder stage (BadWord number) demand area journal (inr e) = absurd (cc)
+refused_round terms told folder stage LineTooLong demand area journal (inl e) = subst (λ (r : Result Asked LineRefusal). IsRoundOf terms told folder stage r area journal (Line LineTooLong) stage) e (inl refl, refl)
+refused_round terms told folder stage LineTooLong demand area journal (inr e) = absurd (cc)
 
 -- It tells no fault of the folder.
 refused_folder : (refusal : LineRefusal) (before after : ℕ) → before ≤ after → AreCounted before (folder_faults_of (reply_to refusal)) after
@@ -84,85 +86,97 @@ refused_folder (BadWord number) before after later = omega (arith, later)
 refused_folder LineTooLong before after later = omega (arith, later)
 refused_folder WantOfMemory before after later = omega (arith, later)
 
--- `faults` and `faults'` are the folder's counts before and after.
-module _ {B P : Type 0} (told : Bool) (view : B → View) (engine : Engine B P) (folder : Option (List NamedText)) (faults faults' : ℕ) (stage : Stage) (now : ℕ)
-    (stands : StandsFor terms told view engine stage.world) (same_now : stage.now ≡ now) (later : faults ≤ faults') where
-  -- The round that a reply makes, where the engine stands after it, the moment of the events then, and what the folder counted.
-  abbrev pub Responds : Terms → Request → ℕ → Content → Reply → Engine B P → ℕ → Type 0
-  Responds terms request area journal reply engine' now' = (stage' : Stage) × IsRoundOf terms told folder stage request area journal reply stage' × Moves terms told view engine engine' stage.world stage'.world
-      × (now' ≡ stage'.now) × AreCounted faults (folder_faults_of reply) faults'
-
-  -- The engine was not asked.
-  still : (IsTrue told → IsSound (view engine.bank)) → (w : World) → w ≡ stage.world → Moves terms told view engine engine stage.world w
-  still sound w same = subst (λ (x : World). Moves terms told view engine engine stage.world x) (sym same)
-      (record { stands = stands; moments = λ t. started (view engine.bank) (λ c. ReadsAs terms stage.world c ⊎ ReadsAs terms stage.world c) (sound t) (λ c image. inl (stands.images t c image)) })
-
-  -- An event was answered by the engine.
-  pub event_response : (terms area : ℕ) (journal : Content) (event : Event) (request : Request) (reply : Reply) (engine' : Engine B P) → IsReadAs (Ok (One event)) request
+-- From a stage at which a session stands. `faults` and `faults'` are the folder's counts before and after, `clock` and `clock'` what
+-- the clock tells.
+module _ {B P : Type 0} (told : Bool) (view : B → View) (engine : Engine B P) (own_moment : Option ℕ) (clock : Option (List ℕ)) (folder : Option (List NamedText)) (faults faults' : ℕ) (stage : Stage)
+    (stands : StandsAt terms told view engine own_moment clock stage) where
+  -- An event was served at the moment that was taken.
+  pub served : (terms area : ℕ) (journal : Content) (event : Event) (now : ℕ) (clock' : Option (List ℕ)) (reply : Reply) (engine' : Engine B P) → Gives (moments_of own_moment clock) (moments_of own_moment clock') now
       → (w' : World) × EventTurn terms told stage.world event now area journal reply w' × Moves terms told view engine engine' stage.world w'
-      → Responds terms request area journal reply engine' now
-  event_response terms area journal event request reply engine' read turn = (
-    record { world = turn.0; now = stage.now },
-    subst (λ (r : Request). IsRoundOf terms told folder stage r area journal reply (record { world = turn.0; now = stage.now })) (request_read (One event) request read)
-        (inr (turn.0, subst (λ (n : ℕ). EventTurn terms told stage.world event n area journal reply turn.0) (sym same_now) turn.1, refl)),
-    turn.2,
-    sym same_now,
-    event_folder terms told stage.world event now area journal reply turn.0 faults faults' turn.1 later,
+      → (stage' : Stage) × IsEvent terms told stage event area journal reply stage' × IsMoved terms told view engine engine' own_moment clock' stage stage'
+  served terms area journal event now clock' reply engine' gives turn = (
+    record { world = turn.0; moments = moments_of own_moment clock' },
+    (now, subst (λ (ms : Option (List ℕ)). Gives ms (moments_of own_moment clock') now) (sym stands.moments) gives, turn.1),
+    record { world = turn.2; moments = refl },
   )
 
-  -- So was the event of the texts that the folder gave.
-  pub configured_response : (terms area : ℕ) (journal : Content) (texts : SiteTexts) (reply : Reply) (engine' : Engine B P) → AreRead folder texts
-      → (w' : World) × EventTurn terms told stage.world (ConfigureEvent texts) now area journal reply w' × Moves terms told view engine engine' stage.world w'
-      → Responds terms (Ok Configure) area journal reply engine' now
-  configured_response terms area journal texts reply engine' read turn = (
-    record { world = turn.0; now = stage.now },
-    inr (texts, read, (turn.0, subst (λ (n : ℕ). EventTurn terms told stage.world (ConfigureEvent texts) n area journal reply turn.0) (sym same_now) turn.1, refl)),
-    turn.2,
-    sym same_now,
-    event_folder terms told stage.world (ConfigureEvent texts) now area journal reply turn.0 faults faults' turn.1 later,
-  )
+  -- The round that a reply makes, where the session stands after it, and what the folder counted.
+  abbrev pub Responds : Terms → Result Asked LineRefusal → ℕ → Content → Reply → Engine B P → Option ℕ → Option (List ℕ) → Type 0
+  Responds terms demand area journal reply engine' own_moment' clock' = (stage' : Stage) × IsRoundOf terms told folder stage demand area journal reply stage'
+      × IsMoved terms told view engine engine' own_moment' clock' stage stage' × AreCounted faults (folder_faults_of reply) faults'
 
-  -- `configure` was asked, which was answered so.
-  pub configure_response : (terms area : ℕ) (journal : Content) (request : Request) (reply : Reply) (engine' : Engine B P) (now' : ℕ) → IsReadAs (Ok Configure) request
-      → Responds terms (Ok Configure) area journal reply engine' now' → Responds terms request area journal reply engine' now'
-  configure_response terms area journal request reply engine' now' read responds =
-      subst (λ (r : Request). Responds terms r area journal reply engine' now') (request_read Configure request read) responds
-
-  module _ (sound : IsTrue told → IsSound (view engine.bank)) where
-    -- The moment of the events moved on.
-    pub at_response : (terms area : ℕ) (journal : Content) (moment moved : ℕ) (request : Request) → IsReadAs (Ok (AskedAt moment)) request → moved ≡ max moment now → Responds terms request area journal (At moved) engine moved
-    at_response terms area journal moment moved request read is =
-        let moved_on : moved ≡ max moment stage.now = is ∙ ap (λ (n : ℕ). max moment n) (sym same_now) in (
-          record { world = stage.world; now = max moment stage.now },
-          subst (λ (r : Request). IsRoundOf terms told folder stage r area journal (At moved) (record { world = stage.world; now = max moment stage.now })) (request_read (AskedAt moment) request read)
-              (inr (ap (λ (n : ℕ). At n) moved_on, refl)),
-          still sound stage.world refl,
-          moved_on,
-          omega (arith, later),
-        )
-
-    -- No text could be read of the folder.
-    pub unread_response : (terms area : ℕ) (journal : Content) (reply : Reply) → (reply ≡ FolderFault) ⊎ (reply ≡ NoMemory) → AreCounted faults (folder_faults_of reply) faults' → Responds terms (Ok Configure) area journal reply engine now
-    unread_response terms area journal reply unread counted = (stage, inl (unread, refl), still sound stage.world refl, sym same_now, counted)
-
-    -- What was asked is no command.
-    pub other_response : (terms area : ℕ) (journal : Content) (asked : Asked) (request : Request) → ((event : Event) → asked ≡ One event → ⊥) → ((moment : ℕ) → asked ≡ AskedAt moment → ⊥) → (asked ≡ Configure → ⊥)
-        → IsReadAs (Ok asked) request → Responds terms request area journal (Line NotACommand) engine now
-    other_response terms area journal asked request not_one not_at not_configure read = (
-      stage,
-      subst (λ (r : Request). IsRoundOf terms told folder stage r area journal (Line NotACommand) stage) (request_read asked request read) (no_command terms told folder stage asked area journal not_one not_at not_configure),
-      still sound stage.world refl,
-      sym same_now,
-      omega (arith, later),
+  module _ (later : faults ≤ faults') where
+    -- An event was answered by the engine.
+    pub event_response : (terms area : ℕ) (journal : Content) (event : Event) (demand : Result Asked LineRefusal) (reply : Reply) (engine' : Engine B P) (clock' : Option (List ℕ)) → IsReadAs (Ok (One event)) demand
+        → (stage' : Stage) × IsEvent terms told stage event area journal reply stage' × IsMoved terms told view engine engine' own_moment clock' stage stage'
+        → Responds terms demand area journal reply engine' own_moment clock'
+    event_response terms area journal event demand reply engine' clock' read turn = (
+      turn.0,
+      subst (λ (r : Result Asked LineRefusal). IsRoundOf terms told folder stage r area journal reply turn.0) (request_read (One event) demand read) (inr turn.1),
+      turn.2,
+      event_folder terms told stage.world event turn.1.0 area journal reply turn.0.world faults faults' turn.1.2 later,
     )
 
-    -- The line was refused, or no memory was found for it.
-    pub refused_response : (terms area : ℕ) (journal : Content) (refusal : LineRefusal) (request : Request) (reply : Reply) → IsReadAs (Err refusal) request → reply ≡ reply_to refusal
-        → Responds terms request area journal reply engine now
-    refused_response terms area journal refusal request reply read is = (
-      stage,
-      subst (λ (r : Reply). IsRoundOf terms told folder stage request area journal r stage) (sym is) (refused_round terms told folder stage refusal request area journal read),
-      still sound stage.world refl,
-      sym same_now,
-      subst (λ (r : Reply). AreCounted faults (folder_faults_of r) faults') (sym is) (refused_folder refusal faults faults' later),
+    -- So was the event of the texts that the folder gave.
+    pub configured_response : (terms area : ℕ) (journal : Content) (texts : SiteTexts) (reply : Reply) (engine' : Engine B P) (clock' : Option (List ℕ)) → AreRead folder texts
+        → (stage' : Stage) × IsEvent terms told stage (ConfigureEvent texts) area journal reply stage' × IsMoved terms told view engine engine' own_moment clock' stage stage'
+        → Responds terms (Ok Configure) area journal reply engine' own_moment clock'
+    configured_response terms area journal texts reply engine' clock' read turn = (
+      turn.0,
+      inr (texts, read, turn.1),
+      turn.2,
+      event_folder terms told stage.world (ConfigureEvent texts) turn.1.0 area journal reply turn.0.world faults faults' turn.1.2 later,
     )
+
+    -- `configure` was asked, which was answered so.
+    pub configure_response : (terms area : ℕ) (journal : Content) (demand : Result Asked LineRefusal) (reply : Reply) (engine' : Engine B P) (own_moment' : Option ℕ) (clock' : Option (List ℕ)) → IsReadAs (Ok Configure) demand
+        → Responds terms (Ok Configure) area journal reply engine' own_moment' clock' → Responds terms demand area journal reply engine' own_moment' clock'
+    configure_response terms area journal demand reply engine' own_moment' clock' read responds =
+        subst (λ (r : Result Asked LineRefusal). Responds terms r area journal reply engine' own_moment' clock') (request_read Configure demand read) responds
+
+    module _ (sound : IsTrue told → IsSound (view engine.bank)) where
+      -- The engine was not asked.
+      still : Moves terms told view engine engine stage.world stage.world
+      still = record {
+        stands = stands.world;
+        moments = λ t. started (view engine.bank) (λ c. ReadsAs terms stage.world c ⊎ ReadsAs terms stage.world c) (sound t) (λ c image. inl (stands.world.images t c image));
+      }
+
+      stays : IsMoved terms told view engine engine own_moment clock stage stage
+      stays = record { world = still; moments = stands.moments }
+
+      -- The session was given a moment of its own.
+      pub at_response : (terms area : ℕ) (journal : Content) (moment moved : ℕ) (demand : Result Asked LineRefusal) (own_moment' : Option ℕ) (clock' : Option (List ℕ)) → IsReadAs (Ok (AskedAt moment)) demand
+          → (now : ℕ) × IfSome (moments_of own_moment clock) (λ (moments : List ℕ). now ≡ next_moment moments) × (moved ≡ max moment now) → own_moment' ≡ Some moved
+          → Responds terms demand area journal (At moved) engine own_moment' clock'
+      at_response terms area journal moment moved demand own_moment' clock' read is is_own = (
+        record { world = stage.world; moments = own (max moment is.0) },
+        subst (λ (r : Result Asked LineRefusal). IsRoundOf terms told folder stage r area journal (At moved) (record { world = stage.world; moments = own (max moment is.0) })) (request_read (AskedAt moment) demand read)
+            (inr (is.0, subst (λ (ms : Option (List ℕ)). IfSome ms (λ (moments : List ℕ). is.0 ≡ next_moment moments)) (sym stands.moments) is.1, ap (λ (n : ℕ). At n) is.2, refl)),
+        record { world = still; moments = ap (λ (n : ℕ). own n) (sym is.2) ∙ ap (λ (o : Option ℕ). moments_of o clock') (sym is_own) },
+        omega (arith, later),
+      )
+
+      -- No text could be read of the folder.
+      pub unread_response : (terms area : ℕ) (journal : Content) (reply : Reply) → (reply ≡ FolderFault) ⊎ (reply ≡ NoMemory) → AreCounted faults (folder_faults_of reply) faults' → Responds terms (Ok Configure) area journal reply engine own_moment clock
+      unread_response terms area journal reply unread counted = (stage, inl (unread, refl), stays, counted)
+
+      -- What was asked is no command.
+      pub other_response : (terms area : ℕ) (journal : Content) (asked : Asked) (demand : Result Asked LineRefusal) → ((event : Event) → asked ≡ One event → ⊥) → ((moment : ℕ) → asked ≡ AskedAt moment → ⊥) → (asked ≡ Configure → ⊥)
+          → IsReadAs (Ok asked) demand → Responds terms demand area journal (Line NotACommand) engine own_moment clock
+      other_response terms area journal asked demand not_one not_at not_configure read = (
+        stage,
+        subst (λ (r : Result Asked LineRefusal). IsRoundOf terms told folder stage r area journal (Line NotACommand) stage) (request_read asked demand read) (no_command terms told folder stage asked area journal not_one not_at not_configure),
+        stays,
+        omega (arith, later),
+      )
+
+      -- The request was refused, or no memory was found for it.
+      pub refused_response : (terms area : ℕ) (journal : Content) (refusal : LineRefusal) (demand : Result Asked LineRefusal) (reply : Reply) → IsReadAs (Err refusal) demand → reply ≡ reply_to refusal
+          → Responds terms demand area journal reply engine own_moment clock
+      refused_response terms area journal refusal demand reply read is = (
+        stage,
+        subst (λ (r : Reply). IsRoundOf terms told folder stage demand area journal r stage) (sym is) (refused_round terms told folder stage refusal demand area journal read),
+        stays,
+        subst (λ (r : Reply). AreCounted faults (folder_faults_of r) faults') (sym is) (refused_folder refusal faults faults' later),
+      )

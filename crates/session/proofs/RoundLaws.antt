@@ -4,15 +4,14 @@ use Rattle.std.proofs.lemmas.List.{append-nil}
 use Rattle.std.proofs.lemmas.Bool.{ne_eqb}
 use Rattle.base.specs.Causes.{AreCounted}
 use Rattle.outside.specs.declared.folder.NamedText.{NamedText}
-use Rattle.desk.specs.Texts.{text_of}
-use Rattle.session.specs.Asking.{Request}
-use Rattle.session.specs.Rounds.{Stage, Round, IsRoundOf, GoOn, ends_run, IsRun, stage_after, asked, output, AreInTime, mark_of, marks_from, cause_of, first_of, status_from, faults_of, faults_in, journal_faults_of, journal_faults_in, IsLastArea, folder_faults_of, folder_faults_in}
+use Rattle.session.specs.Requests.{Request}
+use Rattle.session.specs.Rounds.{Stage, Round, IsRoundOf, GoOn, IsRun, stage_after, asked, output, AreInTime, mark_of, marks_from, cause_of, first_of, status_from, faults_of, faults_in, journal_faults_of, journal_faults_in, IsLastArea, folder_faults_of, folder_faults_in}
 use Rattle.session.specs.declared.kept.Mark.{Mark}
 use Rattle.site_history.specs.Terms.{Terms}
 
 -- A run goes on by a round from where it stands.
 pub run_more : (terms : Terms) (told : Bool) (folder : Option (List NamedText)) (stage : Stage) (rs : List Round) (r : Round) → IsRun terms told folder stage rs
-    → IsRoundOf terms told folder (stage_after stage rs) r.asked r.area r.journal r.reply r.after → IsRun terms told folder stage (rs ++ r ∷ [])
+    → IsRoundOf terms told folder (stage_after stage rs) r.request.asked r.area r.journal r.reply r.after → IsRun terms told folder stage (rs ++ r ∷ [])
 run_more terms told folder stage [] r run turn = (turn, tt)
 run_more terms told folder stage (x ∷ rs) r run turn = (run.0, run_more terms told folder x.after rs r run.1 turn)
 
@@ -22,9 +21,9 @@ after_more stage [] r = refl
 after_more stage (x ∷ rs) r = after_more x.after rs r
 
 -- What was asked, with the round's request behind it.
-pub asked_more : (rs : List Round) (r : Round) → asked (rs ++ r ∷ []) ≡ asked rs ++ r.asked ∷ []
+pub asked_more : (rs : List Round) (r : Round) → asked (rs ++ r ∷ []) ≡ asked rs ++ r.request ∷ []
 asked_more [] r = refl
-asked_more (x ∷ rs) r = ap (λ (l : List Request). x.asked ∷ l) (asked_more rs r)
+asked_more (x ∷ rs) r = ap (λ (l : List Request). x.request ∷ l) (asked_more rs r)
 
 -- Each round has one request.
 pub asked-length : (rs : List Round) → length (asked rs) ≡ length rs
@@ -32,9 +31,9 @@ asked-length [] = refl
 asked-length (x ∷ rs) = ap suc (asked-length rs)
 
 -- What was answered, with the round's answer behind it.
-pub output_more : (rs : List Round) (r : Round) → output (rs ++ r ∷ []) ≡ output rs ++ text_of r.reply
-output_more [] r = append-nil (text_of r.reply)
-output_more (x ∷ rs) r = ap (λ (l : List ℕ). text_of x.reply ++ l) (output_more rs r) ∙ sym (append_assoc (text_of x.reply) (output rs) (text_of r.reply))
+pub output_more : (rs : List Round) (r : Round) → output (rs ++ r ∷ []) ≡ output rs ++ r.request.text r.reply
+output_more [] r = append-nil (r.request.text r.reply)
+output_more (x ∷ rs) r = ap (λ (l : List ℕ). x.request.text x.reply ++ l) (output_more rs r) ∙ sym (append_assoc (x.request.text x.reply) (output rs) (r.request.text r.reply))
 
 -- The marks, with the round's behind them.
 pub marks_more : (n : ℕ) (rs : List Round) (r : Round) → marks_from n (rs ++ r ∷ []) ≡ marks_from n rs ++ mark_of (n + length rs + 1) r ∷ []
@@ -109,6 +108,6 @@ pub counted_more : (start n more before now : ℕ) → AreCounted start n before
 counted_more start n more before now h k = omega arith
 
 -- The run goes on behind a round that does not end it.
-pub go_on_more : (rs : List Round) (r : Round) → GoOn rs → ends_run r.reply ≡ false → GoOn (rs ++ r ∷ [])
+pub go_on_more : (rs : List Round) (r : Round) → GoOn rs → r.request.closes r.reply ≡ false → GoOn (rs ++ r ∷ [])
 go_on_more [] r on e = (e, tt)
 go_on_more (x ∷ rs) r on e = (on.0, go_on_more rs r on.1 e)

@@ -2,31 +2,36 @@
 use Rattle.std.proofs.Common.{◌≡◌, ◌⊎◌, inl, inr, ℕ, suc, zero, ◌+◌, ◌<◌, ◌≤◌, List, [], ◌∷◌, ◌++◌, length, take, refl, sym, ◌∙◌, ap, subst, arith, Bool, true, false, cond, length-append, Option, Some, None, IfSome, IsTrue}
 use Rattle.std.proofs.lemmas.List.{append-nil, take_all}
 use Rattle.std.proofs.lemmas.Bool.{and_parts, and_from}
-use Rattle.std.specs.Prelude.{nat_eq}
+use Rattle.std.proofs.Math.Seq.{take-append_seam}
+use Rattle.std.specs.Prelude.{flat_map}
 use Rattle.std.specs.List.{list_all}
 use Rattle.std.specs.Io.KnownBytes.{Appends, Consumes, IsAtEnd}
 use Rattle.base.specs.Causes.{Rose, AreCounted}
 use Rattle.outside.specs.declared.folder.NamedText.{NamedText}
 use Rattle.bank.specs.Content.{Content}
 use Rattle.bank.specs.View.{View}
+use Rattle.input.specs.Reading.{Items}
 use Rattle.site_events.specs.declared.reply.Reply.{Reply}
 use Rattle.site_events.specs.declared.reply.Reply.TheVariants.{BadJournal}
 use Rattle.site_history.specs.Terms.{Terms}
 use Rattle.site_history.specs.Steps.{HistoryStep}
-use Rattle.site_history.specs.Worlds.{World}
 use Rattle.site_history.specs.Images.{IsSettled}
 use Rattle.site_history.specs.Journals.{IsBadJournal}
 use Rattle.site_history.proofs.JournalLaws.{not_bad_journal}
-use Rattle.session.specs.Asking.{Request, asks_of}
-use Rattle.session.specs.Rounds.{Stage, Round, ends_run, IsRun, asked, output, cause_of, first_of, status_from, faults_in, folder_faults_in, is_told, calm}
-use Rattle.session.specs.Machine.{output_of, texts_told}
+use Rattle.session.specs.Requests.{Request}
+use Rattle.session.specs.Asking.{ends_run, line_request, requests_of, asks_of}
+use Rattle.session.specs.Rounds.{Stage, Round, GoOn, IsRun, asked, output, cause_of, first_of, status_from, faults_in, folder_faults_in, is_as_defined, is_told, calm}
+use Rattle.session.specs.Machine.{AreTold, machine_run, output_of, texts_told}
+use Rattle.desk.specs.Asks.{is_skipped, asked_of}
+use Rattle.input.specs.Lines.{RawLine, Kept, Long, raw_lines}
 use Rattle.session.specs.Session.{Outside, IsSession, Ends, status_of}
 use Rattle.session.specs.Outcomes.{HasStatus, journal_bytes}
 use Rattle.session.specs.declared.kept.Mark.{Mark}
 use Rattle.session.specs.declared.kept.Ending.{Ending}
+use Rattle.session.specs.declared.kept.Ending.TheVariants.{Ended, Closed, SourceFault, SinkFault, OverBudget, NoMemory}
 use Rattle.session.proofs.RoundLaws.{asked-length, first_suc}
-use Rattle.session.proofs.AnswerCauses.{CauseOf}
-use Rattle.session.proofs.MachineLaws.{round_cause, calm_rests, output_told}
+use Rattle.session.proofs.AnswerCauses.{CauseOf, none_defined}
+use Rattle.session.proofs.MachineLaws.{round_cause, calm_rests, output_told, output_closed}
 use Rattle.session.proofs.StatusCauses.{by_bank, by_folder, by_memory, by_end, by_source, by_sink, by_budget}
 
 -- None of the replies is a cause of a status.
@@ -50,10 +55,10 @@ status_is : (terms : Terms) (told : Bool) (folder : Option (List NamedText)) (st
     → StatusOf rs later (status_from rs later)
 status_is terms told folder stage [] later rest run = inl (refl, tt)
 status_is terms told folder stage (x ∷ rs) later rest run =
-    by_cause (round_cause terms told folder stage x.asked x.area x.journal x.reply x.after rest run.0) (λ h. status_is terms told folder x.after rs later h run.1)
+    by_cause (round_cause terms told folder stage x.request.asked x.area x.journal x.reply x.after rest run.0) (λ h. status_is terms told folder x.after rs later h run.1)
   where
     by_cause : CauseOf x.reply → (x.after.world.due ≡ false → StatusOf rs later (status_from rs later)) → StatusOf (x ∷ rs) later (first_of (cause_of x.reply) (status_from rs later))
-    by_cause (inl e) behind = behind_calm x rs later (status_from rs later) e (behind (calm_rests terms told folder stage x.asked x.area x.journal x.reply x.after rest run.0 e))
+    by_cause (inl e) behind = behind_calm x rs later (status_from rs later) e (behind (calm_rests terms told folder stage x.request.asked x.area x.journal x.reply x.after rest run.0 (none_defined x.reply e)))
     by_cause (inr (inl (e, f))) behind = inr (inl (ap (λ (k : ℕ). first_of k (status_from rs later)) e ∙ first_suc 2 (status_from rs later), omega (arith, f)))
     by_cause (inr (inr e)) behind = inr (inr (ap (λ (k : ℕ). first_of k (status_from rs later)) e ∙ first_suc 8 (status_from rs later)))
 
@@ -62,13 +67,103 @@ last_none : (rs : List Round) (r : Round) → NoCauses (rs ++ r ∷ []) → caus
 last_none [] r none = none.0
 last_none (x ∷ rs) r none = last_none rs r none.1
 
--- Such rounds are all calm, where the folder fixes what the machine tells to them.
-all_calm : (folder : Option (List NamedText)) (rs : List Round) → NoCauses rs → IsTrue (list_all (is_told folder) (asked rs)) → calm folder rs ≡ rs
-all_calm folder [] none fixed = refl
-all_calm folder (x ∷ rs) none fixed =
-    let parts = and_parts (is_told folder x.asked) (list_all (is_told folder) (asked rs)) fixed in
-    ap (λ (b : Bool). cond b (x ∷ calm folder rs) []) (and_from (nat_eq (cause_of x.reply) 0) (is_told folder x.asked) (ap (λ (k : ℕ). nat_eq k 0) none.0) parts.0)
-    ∙ ap (λ (l : List Round). x ∷ l) (all_calm folder rs none.1 parts.1)
+-- whether folder and clock fix what is told to a request
+abbrev is_fixed : Option (List NamedText) → Option (List ℕ) → Request → Bool
+is_fixed folder moments request = is_told folder moments request.asked
+
+-- Such rounds are all calm, where folder and clock fix what the machine tells to them.
+all_calm : (folder : Option (List NamedText)) (moments : Option (List ℕ)) (rs : List Round) → NoCauses rs → IsTrue (list_all (is_fixed folder moments) (asked rs)) → calm folder moments rs ≡ rs
+all_calm folder moments [] none fixed = refl
+all_calm folder moments (x ∷ rs) none fixed =
+    let parts = and_parts (is_told folder moments x.request.asked) (list_all (is_fixed folder moments) (asked rs)) fixed in
+    ap (λ (b : Bool). cond b (x ∷ calm folder moments rs) []) (and_from (is_as_defined x.reply) (is_told folder moments x.request.asked) (none_defined x.reply none.0) parts.0)
+    ∙ ap (λ (l : List Round). x ∷ l) (all_calm folder moments rs none.1 parts.1)
+
+no_front : (xs ys : List ℕ) → xs ++ ys ≡ [] → xs ≡ []
+no_front [] ys e = refl
+no_front (x ∷ xs) ys e = absurd (cc)
+
+module _ (terms : Terms) (Asks : Items Request) (Stands : Stage → Type 0) (told : Bool) (budget : ℕ) (store : View) (old new : Outside) (first : Stage) (rests : first.world.due ≡ false) (marks : List Mark) (status : ℕ)
+    (s : IsSession terms Asks Stands told budget store old new first marks status) where
+  abbrev all_rounds : List Round
+  all_rounds = s.told ++ s.untold
+
+  session_kind : StatusOf all_rounds (status_of s.ending) status
+  session_kind = subst (λ (n : ℕ). StatusOf all_rounds (status_of s.ending) n) (sym s.first_cause) (status_is terms told old.folder first all_rounds (status_of s.ending) rests s.run)
+
+  -- All rounds are as the machine tells them, where they are calm.
+  all_as_told : calm old.folder first.moments all_rounds ≡ all_rounds → AreTold told all_rounds (machine_run terms (texts_told old.folder) first (asked all_rounds))
+  all_as_told same =
+      let front : take (length (calm old.folder first.moments all_rounds)) (Asks s.read s.met_end) ≡ asked all_rounds =
+      ap (λ (l : List Request). take (length (calm old.folder first.moments all_rounds)) l) (sym s.asks)
+      ∙ ap (λ (n : ℕ). take n (asked all_rounds ++ s.unasked)) (ap length same ∙ sym (asked-length all_rounds)) ∙ take-append_seam (asked all_rounds) s.unasked in
+      subst (λ (l : List Round). AreTold told l (machine_run terms (texts_told old.folder) first (asked all_rounds))) same
+      (subst (λ (l : List Request). AreTold told (calm old.folder first.moments all_rounds) (machine_run terms (texts_told old.folder) first l)) front s.fixed)
+
+  -- what was written is the machine's output for all that was asked
+  abbrev pub IsOutput : Type 0
+  IsOutput = IsTrue (list_all (λ (request : Request). is_told old.folder first.moments request.asked) (asked all_rounds)) → Appends old.written new.written (output_of terms (texts_told old.folder) first (Asks s.read s.met_end))
+
+  -- nothing was cut off
+  uncut : s.untold ≡ [] → output s.told ++ s.cut ≡ output all_rounds
+  uncut none = ap (λ (l : List ℕ). output s.told ++ l) (no_front s.cut s.lost (s.cut_off ∙ ap output none)) ∙ append-nil (output s.told)
+      ∙ ap output (sym (append-nil s.told) ∙ ap (λ (l : List Round). s.told ++ l) (sym none))
+
+  output_by : IsTrue told → NoCauses all_rounds → (ending : Ending) → status_of ending ≡ 0 → Ends budget old new s.read s.beyond s.met_end s.told s.untold s.cut s.lost s.unasked ending → IsOutput
+  output_by tells none Ended e ends fixed =
+      let all_told : s.told ≡ all_rounds = sym (append-nil s.told) ∙ ap (λ (l : List Round). s.told ++ l) (sym ends.4) in
+      let asks : asked all_rounds ≡ Asks s.read s.met_end = sym (append-nil (asked all_rounds)) ∙ ap (λ (l : List Request). asked all_rounds ++ l) (sym ends.3) ∙ s.asks in
+      subst (λ (l : List ℕ). Appends old.written new.written l)
+      (uncut ends.4 ∙ output_told terms (texts_told old.folder) told first all_rounds tells (subst GoOn all_told ends.0) (all_as_told (all_calm old.folder first.moments all_rounds none fixed))
+      ∙ ap (λ (l : List Request). output_of terms (texts_told old.folder) first l) asks) s.written
+  output_by tells none Closed e ends fixed =
+      let all : all_rounds ≡ ends.0.0 ++ ends.0.1 ∷ [] = ap (λ (l : List Round). s.told ++ l) ends.2 ∙ append-nil s.told ∙ ends.0.2 in
+      subst (λ (l : List ℕ). Appends old.written new.written l)
+      (uncut ends.2 ∙ ap output all
+      ∙ output_closed terms (texts_told old.folder) told first ends.0.0 ends.0.1 s.unasked tells ends.0.3 ends.0.4
+      (subst (λ (l : List Round). AreTold told l (machine_run terms (texts_told old.folder) first (asked l))) all (all_as_told (all_calm old.folder first.moments all_rounds none fixed)))
+      ∙ ap (λ (l : List Round). output_of terms (texts_told old.folder) first (asked l ++ s.unasked)) (sym all) ∙ ap (λ (l : List Request). output_of terms (texts_told old.folder) first l) s.asks) s.written
+  output_by tells none SourceFault e ends fixed = absurd (omega (arith, e))
+  output_by tells none SinkFault e ends fixed = absurd (omega (arith, e))
+  output_by tells none OverBudget e ends fixed = absurd (omega (arith, e))
+  output_by tells none NoMemory e ends fixed = absurd (omega (arith, e))
+
+  -- With status 0 what was written is the machine's output for all that was asked, where the store tells its content.
+  pub session_output : IsTrue told → status ≡ 0 → IsOutput
+  session_output tells is = elim session_kind [
+    | inl k ↦ output_by tells k.1 s.ending (sym k.0 ∙ is) s.ends
+    | inr (inl k) ↦ absurd (omega (arith, k.0, is))
+    | inr (inr k) ↦ absurd (omega (arith, k, is))
+  ]
+
+-- The requests are lines: a bad journal ends the session.
+abbrev AreLines : List Request → Type 0
+AreLines [] = Unit {0}
+AreLines (request ∷ requests) = (request.closes ≡ ends_run) × AreLines requests
+
+more_lines : (front rest : List Request) → AreLines front → AreLines rest → AreLines (front ++ rest)
+more_lines [] rest a b = b
+more_lines (request ∷ front) rest a b = (a.0, more_lines front rest a.1 b)
+
+front_lines : (front rest : List Request) → AreLines (front ++ rest) → AreLines front
+front_lines [] rest a = tt
+front_lines (request ∷ front) rest a = (a.0, front_lines front rest a.1)
+
+unless_skipped : (skipped : Bool) (request : Request) → request.closes ≡ ends_run → AreLines (cond skipped [] (request ∷ []))
+unless_skipped true request e = tt
+unless_skipped false request e = (e, tt)
+
+line_lines : (line : RawLine) → AreLines (requests_of line)
+line_lines (Kept line) = unless_skipped (is_skipped line) (line_request (asked_of line)) refl
+line_lines Long = (refl, tt)
+
+raw_lines_lines : (lines : List RawLine) → AreLines (flat_map requests_of lines)
+raw_lines_lines [] = tt
+raw_lines_lines (line ∷ lines) = more_lines (requests_of line) (flat_map requests_of lines) (line_lines line) (raw_lines_lines lines)
+
+last_line : (rs : List Round) (r : Round) → AreLines (asked (rs ++ r ∷ [])) → r.request.closes ≡ ends_run
+last_line [] r a = a.0
+last_line (x ∷ rs) r a = last_line rs r a.1
 
 -- Of two counts one rose, where together they tell a fault.
 rose_either : (some more before now before' now' : ℕ) → 0 < some + more → AreCounted before some now → AreCounted before' more now' → Rose before now ⊎ Rose before' now'
@@ -92,11 +187,7 @@ taken_all None b read P c e p = tt
 taken_all (Some xs) None read P c e p = absurd c
 taken_all (Some xs) (Some ys) read P c e p = subst P (sym (c ∙ ap (λ (l : List ℕ). read ++ l) e ∙ append-nil read)) p
 
-no_front : (xs ys : List ℕ) → xs ++ ys ≡ [] → xs ≡ []
-no_front [] ys e = refl
-no_front (x ∷ xs) ys e = absurd (cc)
-
-module _ (terms : Terms) (Stands : World → Type 0) (told : Bool) (budget : ℕ) (store : View) (old new : Outside) (first : Stage) (rests : first.world.due ≡ false) (marks : List Mark) (status : ℕ)
+module _ (terms : Terms) (Stands : Stage → Type 0) (told : Bool) (budget : ℕ) (store : View) (old new : Outside) (first : Stage) (rests : first.world.due ≡ false) (marks : List Mark) (status : ℕ)
     (s : IsSession terms asks_of Stands told budget store old new first marks status) where
   kind : StatusOf (s.told ++ s.untold) (status_of s.ending) status
   kind = subst (λ (n : ℕ). StatusOf (s.told ++ s.untold) (status_of s.ending) n) (sym s.first_cause) (status_is terms told old.folder first (s.told ++ s.untold) (status_of s.ending) rests s.run)
@@ -114,7 +205,10 @@ module _ (terms : Terms) (Stands : World → Type 0) (told : Bool) (budget : ℕ
   never_closed : EndsAs Ending.Closed → NoCauses (s.told ++ s.untold) → ⊥
   never_closed e none =
       let all : s.told ++ s.untold ≡ e.0.0 ++ e.0.1 ∷ [] = ap (λ (l : List Round). s.told ++ l) e.2 ∙ append-nil s.told ∙ e.0.2 in
-      omega (arith, last_none e.0.0 e.0.1 (subst NoCauses all none), last_is_cause e.0.1.reply e.0.4)
+      let lines : AreLines (asked (s.told ++ s.untold)) = front_lines (asked (s.told ++ s.untold)) s.unasked (subst AreLines (sym s.asks) (raw_lines_lines (raw_lines s.read s.met_end))) in
+      let closes : e.0.1.request.closes ≡ ends_run = last_line e.0.0 e.0.1 (subst (λ (l : List Round). AreLines (asked l)) all lines) in
+      let ends : ends_run e.0.1.reply ≡ true = sym (ap (λ (f : Reply → Bool). f e.0.1.reply) closes) ∙ e.0.4 in
+      omega (arith, last_none e.0.0 e.0.1 (subst NoCauses all none), last_is_cause e.0.1.reply ends)
 
   abbrev pub Cause : Type 0
   Cause = ((status ≡ 0) × EndsAs Ending.Ended × NoCauses (s.told ++ s.untold))
@@ -141,9 +235,13 @@ module _ (terms : Terms) (Stands : World → Type 0) (told : Bool) (budget : ℕ
   all_read : EndsAs Ending.Ended → (P : List ℕ → Type 0) → P s.read → IfSome old.left P
   all_read e P p = taken_all old.left new.left s.read P (subst (λ (l : List ℕ). Consumes old.left new.left l) (ap (λ (l : List ℕ). s.read ++ l) e.1 ∙ append-nil s.read) s.taken) (s.end e.2) p
 
-  -- what was written is the output of all of the input, where the folder fixes it
+  -- what was written is the output of all of the input, where folder and clock fix it
   abbrev pub WroteAll : List ℕ → Type 0
-  WroteAll bytes = IsTrue (list_all (is_told old.folder) (asks_of bytes true)) → Appends old.written new.written (output_of terms (texts_told old.folder) first (asks_of bytes true))
+  WroteAll bytes = IsTrue (list_all (is_fixed old.folder first.moments) (asks_of bytes true)) → Appends old.written new.written (output_of terms (texts_told old.folder) first (asks_of bytes true))
+
+  -- the rounds that are fixed
+  abbrev fixed_rounds : List Round
+  fixed_rounds = calm old.folder first.moments (s.told ++ s.untold)
 
   -- With status 0 the output is that of all that was read, where the store tells its content.
   all_written : IsTrue told → EndsAs Ending.Ended → NoCauses (s.told ++ s.untold) → IfSome old.left (λ bytes. (length bytes ≤ budget) × WroteAll bytes)
@@ -152,18 +250,24 @@ module _ (terms : Terms) (Stands : World → Type 0) (told : Bool) (budget : ℕ
       asks : asks_of s.read true ≡ asked (s.told ++ s.untold)
       asks = ap (λ (b : Bool). asks_of s.read b) (sym e.2) ∙ sym s.asks ∙ ap (λ (l : List Request). asked (s.told ++ s.untold) ++ l) e.3 ∙ append-nil (asked (s.told ++ s.untold))
 
-      calm_all : IsTrue (list_all (is_told old.folder) (asks_of s.read true)) → calm old.folder (s.told ++ s.untold) ≡ s.told ++ s.untold
-      calm_all fixed = all_calm old.folder (s.told ++ s.untold) none (subst (λ (l : List Request). IsTrue (list_all (is_told old.folder) l)) asks fixed)
+      all_told : s.told ≡ s.told ++ s.untold
+      all_told = sym (append-nil s.told) ∙ ap (λ (l : List Round). s.told ++ l) (sym e.4)
 
-      front_all : calm old.folder (s.told ++ s.untold) ≡ s.told ++ s.untold → take (length (calm old.folder (s.told ++ s.untold))) (asks_of s.read s.met_end) ≡ asks_of s.read true
-      front_all calm_same = ap (λ (b : Bool). take (length (calm old.folder (s.told ++ s.untold))) (asks_of s.read b)) e.2
-          ∙ take_all (length (calm old.folder (s.told ++ s.untold))) (asks_of s.read true) (omega (arith, ap length asks, asked-length (s.told ++ s.untold), ap length calm_same))
+      calm_all : IsTrue (list_all (is_fixed old.folder first.moments) (asks_of s.read true)) → fixed_rounds ≡ s.told ++ s.untold
+      calm_all fixed = all_calm old.folder first.moments (s.told ++ s.untold) none (subst (λ (l : List Request). IsTrue (list_all (is_fixed old.folder first.moments) l)) asks fixed)
 
-      out : calm old.folder (s.told ++ s.untold) ≡ s.told ++ s.untold → output s.told ++ s.cut ≡ output_of terms (texts_told old.folder) first (asks_of s.read true)
-      out calm_same = ap (λ (l : List ℕ). output s.told ++ l) (no_front s.cut s.lost (s.cut_off ∙ ap output e.4)) ∙ append-nil (output s.told)
-          ∙ ap output (sym (append-nil s.told) ∙ ap (λ (l : List Round). s.told ++ l) (sym e.4)) ∙ ap output (sym calm_same)
-          ∙ output_told told (calm old.folder (s.told ++ s.untold)) _ tells s.fixed
-          ∙ ap (λ (l : List Request). output_of terms (texts_told old.folder) first l) (front_all calm_same)
+      front_all : fixed_rounds ≡ s.told ++ s.untold → take (length fixed_rounds) (asks_of s.read s.met_end) ≡ asks_of s.read true
+      front_all calm_same = ap (λ (b : Bool). take (length fixed_rounds) (asks_of s.read b)) e.2
+          ∙ take_all (length fixed_rounds) (asks_of s.read true) (omega (arith, ap length asks, asked-length (s.told ++ s.untold), ap length calm_same))
+
+      as_told : fixed_rounds ≡ s.told ++ s.untold → AreTold told (s.told ++ s.untold) (machine_run terms (texts_told old.folder) first (asked (s.told ++ s.untold)))
+      as_told calm_same = subst (λ (l : List Round). AreTold told l (machine_run terms (texts_told old.folder) first (asked (s.told ++ s.untold)))) calm_same
+          (subst (λ (l : List Request). AreTold told fixed_rounds (machine_run terms (texts_told old.folder) first l)) (front_all calm_same ∙ asks) s.fixed)
+
+      out : fixed_rounds ≡ s.told ++ s.untold → output s.told ++ s.cut ≡ output_of terms (texts_told old.folder) first (asks_of s.read true)
+      out calm_same = ap (λ (l : List ℕ). output s.told ++ l) (no_front s.cut s.lost (s.cut_off ∙ ap output e.4)) ∙ append-nil (output s.told) ∙ ap output all_told
+          ∙ output_told terms (texts_told old.folder) told first (s.told ++ s.untold) tells (subst GoOn all_told e.0) (as_told calm_same)
+          ∙ ap (λ (l : List Request). output_of terms (texts_told old.folder) first l) (sym asks)
 
   pub whole_output : IsTrue told → status ≡ 0 → IfSome old.left (λ bytes. (length bytes ≤ budget) × WroteAll bytes)
   whole_output tells is = elim cause [

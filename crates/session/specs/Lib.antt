@@ -1,9 +1,11 @@
+pub mod Requests
 pub mod Asking
 pub mod Rounds
 pub mod Machine
 pub mod Kept
 pub mod Session
 pub mod Hearing
+pub mod Standing
 pub mod OneRound
 pub mod Refusing
 pub mod Ran

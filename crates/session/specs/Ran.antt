@@ -1,19 +1,18 @@
--- What a loop over the lines of an input keeps.
+-- What a loop over the requests of an input keeps.
 use Rattle.std.specs.Prelude.{◌≡◌, ℕ, List, [], ◌++◌, Bool, true, false, IsTrue}
 use Rattle.std.specs.Io.KnownBytes.{Appends}
 use Rattle.base.specs.Causes.{AreCounted}
 use Rattle.bank.specs.View.{View}
 use Rattle.input.specs.Reading.{Reading, Items, Moved}
-use Rattle.site_history.specs.Terms.{Terms}
-use Rattle.site_history.specs.Worlds.{World}
-use Rattle.session.specs.Asking.{Request}
+use Rattle.session.specs.Requests.{Request}
 use Rattle.session.specs.Rounds.{Stage, Round, GoOn, IsRun, stage_after, asked, output, AreInTime, marks_from, status_from, faults_in, journal_faults_in, IsLastArea, JournalsStood, folder_faults_in}
 use Rattle.session.specs.Session.{Outside}
 use Rattle.session.specs.Kept.{AreKept}
 use Rattle.session.specs.declared.kept.Mark.{Mark}
+use Rattle.site_history.specs.Terms.{Terms}
 
--- all that was asked was answered whole, and the run goes on
-pub record Ran (terms : Terms) (Asks : Items Request) (Stands : World → Type 0) (tells : Bool) (store : View) (old new : Outside) (start reader : Reading) (first : Stage) (moment : ℕ) (marks : List Mark) (status : ℕ) : Type 0 where
+-- all that was asked was answered whole, and the session goes on
+pub record Ran (terms : Terms) (Asks : Items Request) (Stands : Stage → Type 0) (tells : Bool) (store : View) (old new : Outside) (start reader : Reading) (first : Stage) (marks : List Mark) (status : ℕ) : Type 0 where
   pub rounds : List Round
   pub used : List ℕ
   pub moved : Moved old.left new.left start reader used []
@@ -21,9 +20,7 @@ pub record Ran (terms : Terms) (Asks : Items Request) (Stands : World → Type 0
   pub whole : reader.ended ≡ true → Asks used true ≡ asked rounds
   pub run : IsRun terms tells old.folder first rounds
   pub go_on : GoOn rounds
-  pub stands : Stands (stage_after first rounds).world
-  -- the moment of the events from now on
-  pub at_moment : moment ≡ (stage_after first rounds).now
+  pub stands : Stands (stage_after first rounds)
   pub written : Appends old.written new.written (output rounds)
   pub marks_told : marks ≡ marks_from 0 rounds
   pub in_time : IsTrue tells → AreInTime old.moment rounds new.moment

@@ -1,30 +1,42 @@
 -- Rounds: what was asked, what was answered, and what followed from it.
-use Rattle.std.specs.Prelude.{◌≡◌, ◌⊎◌, ◌+◌, ◌≤◌, ℕ, max, List, [], ◌∷◌, length, map, flat_map, Bool, ◌&&◌, ◌==◌, if◌then◌else◌, true, false, cond, nat_eq, Option, Some, None, Ok, Err}
+use Rattle.std.specs.Prelude.{◌≡◌, ◌⊎◌, ◌+◌, ◌≤◌, ℕ, max, List, [], ◌∷◌, length, map, flat_map, Bool, ◌&&◌, ◌==◌, if◌then◌else◌, true, false, cond, nat_eq, Option, Some, None, IfSome, Result, Ok, Err}
 use Rattle.outside.specs.declared.folder.NamedText.{NamedText}
+use Rattle.outside.specs.Moments.{Gives, next_moment}
 use Rattle.bank.specs.Content.{Content, Image}
 use Rattle.bank.specs.View.{View}
+use Rattle.site_events.specs.declared.event.Asked.{Asked}
 use Rattle.site_events.specs.declared.event.Asked.TheVariants.{One, At as AskedAt, Configure}
 use Rattle.site_events.specs.declared.event.Event.{Event}
 use Rattle.site_events.specs.declared.event.Event.TheVariants.{Configure as ConfigureEvent}
 use Rattle.site_types.specs.declared.file.SiteTexts.{SiteTexts}
+use Rattle.site_events.specs.declared.reply.LineRefusal.{LineRefusal}
 use Rattle.site_events.specs.declared.reply.LineRefusal.TheVariants.{NotACommand}
 use Rattle.site_events.specs.declared.reply.Reply.{Reply}
 use Rattle.site_events.specs.declared.reply.Reply.TheVariants.{Line, At, BankFault, FolderFault, BadJournal, NoMemory}
-use Rattle.desk.specs.Texts.{text_of}
 use Rattle.configuration.specs.FolderTexts.{AreRead}
 use Rattle.site_history.specs.Terms.{Terms}
 use Rattle.site_history.specs.Worlds.{World, EventTurn}
-use Rattle.session.specs.Asking.{Request}
+use Rattle.session.specs.Requests.{Request}
 use Rattle.session.specs.declared.kept.Mark.{Mark}
 
--- where a run stands: the world, and the moment that its events have
+-- Where a session stands: the world, and the moments to come, where they are told. Each event takes the next one, and the last
+-- one is given again.
 pub record Stage : Type 0 where
   pub world : World
-  pub now : ℕ
+  pub moments : Option (List ℕ)
 
--- what was asked and answered, and where the run stands then
+-- a moment of the session's own, which each event has
+abbrev pub own : ℕ → Option (List ℕ)
+own moment = Some (moment ∷ [])
+
+-- the moments to come: the session's own moment, or else those of a clock
+abbrev pub moments_of : Option ℕ → Option (List ℕ) → Option (List ℕ)
+moments_of (Some moment) moments = own moment
+moments_of None moments = moments
+
+-- what was asked and answered, and where the session stands then
 pub record Round : Type 0 where
-  pub asked : Request
+  pub request : Request
   pub reply : Reply
   pub after : Stage
   -- the area of the store's last fault after the round
@@ -38,20 +50,24 @@ pub record Round : Type 0 where
 abbrev pub Answers : Reply → Stage → Reply → Stage → Type 0
 Answers defined stage reply stage' = ((reply ≡ defined) ⊎ (reply ≡ NoMemory)) × (stage' ≡ stage)
 
--- an event of the machine, at the run's moment
+-- an event of the machine, at the next moment
 abbrev pub IsEvent : Terms → Bool → Stage → Event → ℕ → Content → Reply → Stage → Type 0
 IsEvent terms told stage event area journal reply stage' =
-    (w' : World) × EventTurn terms told stage.world event stage.now area journal reply w' × (stage' ≡ record { world = w'; now = stage.now })
+    (moment : ℕ) × Gives stage.moments stage'.moments moment × EventTurn terms told stage.world event moment area journal reply stage'.world
+
+-- The session has a moment of its own from now on: this one, or the next one that was to come, whichever is later.
+abbrev pub IsMovedTo : ℕ → Stage → Reply → Stage → Type 0
+IsMovedTo moment stage reply stage' = (now : ℕ) × IfSome stage.moments (λ moments. now ≡ next_moment moments)
+    × (reply ≡ At (max moment now)) × (stage' ≡ record { world = stage.world; moments = own (max moment now) })
 
 -- One round from a stage, over a journal of this size; `told` is whether the store tells its content, `folder` what the folder
 -- tells, `area` that of the store's last fault, and `journal` what the journal's area read when the round began. An event is one
--- of the machine. `at` moves the run's moment on. `configure` is the event of the texts that were read of the folder; where they
--- could not be read, all stays. Or no memory was found to read the line. What is asked otherwise is no command.
-abbrev pub IsRoundOf : Terms → Bool → Option (List NamedText) → Stage → Request → ℕ → Content → Reply → Stage → Type 0
+-- of the machine. `at` gives the session a moment of its own. `configure` is the event of the texts that were read of the folder;
+-- where they could not be read, all stays. Or no memory was found to read the request. What is asked otherwise is no command.
+abbrev pub IsRoundOf : Terms → Bool → Option (List NamedText) → Stage → Result Asked LineRefusal → ℕ → Content → Reply → Stage → Type 0
 IsRoundOf terms told folder stage (Err refusal) area journal reply stage' = Answers (Line refusal) stage reply stage'
 IsRoundOf terms told folder stage (Ok (One event)) area journal reply stage' = ((reply ≡ NoMemory) × (stage' ≡ stage)) ⊎ IsEvent terms told stage event area journal reply stage'
-IsRoundOf terms told folder stage (Ok (AskedAt moment)) area journal reply stage' = ((reply ≡ NoMemory) × (stage' ≡ stage))
-    ⊎ ((reply ≡ At (max moment stage.now)) × (stage' ≡ record { world = stage.world; now = max moment stage.now }))
+IsRoundOf terms told folder stage (Ok (AskedAt moment)) area journal reply stage' = ((reply ≡ NoMemory) × (stage' ≡ stage)) ⊎ IsMovedTo moment stage reply stage'
 IsRoundOf terms told folder stage (Ok Configure) area journal reply stage' = (((reply ≡ FolderFault) ⊎ (reply ≡ NoMemory)) × (stage' ≡ stage))
     ⊎ ((texts : SiteTexts) × AreRead folder texts × IsEvent terms told stage (ConfigureEvent texts) area journal reply stage')
 IsRoundOf terms told folder stage (Ok _) area journal reply stage' = Answers (Line NotACommand) stage reply stage'
@@ -60,18 +76,18 @@ IsRoundOf terms told folder stage (Ok _) area journal reply stage' = Answers (Li
 abbrev pub IsRun : Terms → Bool → Option (List NamedText) → Stage → List Round → Type 0
 IsRun terms told folder stage [] = Unit {0}
 IsRun terms told folder stage (round ∷ rounds) =
-    IsRoundOf terms told folder stage round.asked round.area round.journal round.reply round.after × IsRun terms told folder round.after rounds
+    IsRoundOf terms told folder stage round.request.asked round.area round.journal round.reply round.after × IsRun terms told folder round.after rounds
 
 abbrev pub stage_after : Stage → List Round → Stage
 stage_after stage [] = stage
 stage_after stage (round ∷ rounds) = stage_after round.after rounds
 
 abbrev pub asked : List Round → List Request
-asked rounds = map (λ (round : Round). round.asked) rounds
+asked rounds = map (λ (round : Round). round.request) rounds
 
 -- the texts of the answers, joined
 abbrev pub output : List Round → List ℕ
-output rounds = flat_map (λ (round : Round). text_of round.reply) rounds
+output rounds = flat_map (λ (round : Round). round.request.text round.reply) rounds
 
 -- the store's moments never go back
 abbrev pub AreInTime : ℕ → List Round → ℕ → Type 0
@@ -142,25 +158,34 @@ abbrev pub folder_faults_in : List Round → ℕ
 folder_faults_in [] = 0
 folder_faults_in (round ∷ rounds) = folder_faults_of round.reply + folder_faults_in rounds
 
--- whether an answer ends the run: a bad journal does
-abbrev pub ends_run : Reply → Bool
-ends_run (BadJournal place) = true
-ends_run _ = false
-
--- none of these rounds ends the run
+-- none of these rounds ends the session
 abbrev pub GoOn : List Round → Type 0
 GoOn [] = Unit {0}
-GoOn (round ∷ rounds) = (ends_run round.reply ≡ false) × GoOn rounds
+GoOn (round ∷ rounds) = (round.request.closes round.reply ≡ false) × GoOn rounds
 
--- Whether the folder fixes what the machine tells to a request. It does not where it tells nothing and `configure` is asked: of
--- such a folder any texts may be read.
-abbrev pub is_told : Option (List NamedText) → Request → Bool
-is_told (Some texts) request = true
-is_told None (Err refusal) = true
-is_told None (Ok Configure) = false
-is_told None (Ok _) = true
+-- whether a reply is the machine's own, and none that a fault or want of memory gives
+abbrev pub is_as_defined : Reply → Bool
+is_as_defined BankFault = false
+is_as_defined FolderFault = false
+is_as_defined (BadJournal place) = false
+is_as_defined NoMemory = false
+is_as_defined _ = true
 
--- the rounds before the first that is a fault or want of memory, or whose request the folder does not fix
-abbrev pub calm : Option (List NamedText) → List Round → List Round
-calm folder [] = []
-calm folder (round ∷ rounds) = cond (nat_eq (cause_of round.reply) 0 && is_told folder round.asked) (round ∷ calm folder rounds) []
+-- whether something is told
+abbrev pub is_known : {A : Type 0} → Option A → Bool
+is_known (Some told) = true
+is_known None = false
+
+-- Whether folder and clock fix what the machine tells to what is asked. A folder that tells nothing may give any texts to
+-- `configure`, and a clock that tells nothing any moment.
+abbrev pub is_told : Option (List NamedText) → Option (List ℕ) → Result Asked LineRefusal → Bool
+is_told folder moments (Err refusal) = true
+is_told folder moments (Ok (One event)) = is_known moments
+is_told folder moments (Ok (AskedAt moment)) = is_known moments
+is_told folder moments (Ok Configure) = is_known folder && is_known moments
+is_told folder moments (Ok _) = true
+
+-- the rounds before the first that is a fault or want of memory, or whose reply folder and clock do not fix
+abbrev pub calm : Option (List NamedText) → Option (List ℕ) → List Round → List Round
+calm folder moments [] = []
+calm folder moments (round ∷ rounds) = cond (is_as_defined round.reply && is_told folder moments round.request.asked) (round ∷ calm folder moments rounds) []

@@ -5,15 +5,14 @@ use Rattle.base.specs.Causes.{Rose, AreCounted}
 use Rattle.outside.specs.declared.folder.NamedText.{NamedText}
 use Rattle.bank.specs.View.{View}
 use Rattle.input.specs.Reading.{Items}
-use Rattle.site_history.specs.Terms.{Terms}
-use Rattle.site_history.specs.Worlds.{World}
-use Rattle.session.specs.Asking.{Request}
-use Rattle.session.specs.Rounds.{Stage, Round, IsRun, stage_after, asked, output, AreInTime, marks_from, status_from, faults_in, journal_faults_in, IsLastArea, JournalsStood, folder_faults_in, GoOn, ends_run, calm}
+use Rattle.session.specs.Requests.{Request}
+use Rattle.session.specs.Rounds.{Stage, Round, IsRun, stage_after, asked, output, AreInTime, marks_from, status_from, faults_in, journal_faults_in, IsLastArea, JournalsStood, folder_faults_in, GoOn, calm}
 use Rattle.session.specs.Machine.{AreTold, machine_run, texts_told}
 use Rattle.session.specs.Kept.{AreKept}
 use Rattle.session.specs.declared.kept.Mark.{Mark}
 use Rattle.session.specs.declared.kept.Ending.{Ending}
 use Rattle.session.specs.declared.kept.Ending.TheVariants.{Ended, Closed, SourceFault, SinkFault, OverBudget, NoMemory}
+use Rattle.site_history.specs.Terms.{Terms}
 
 -- what is told of the objects outside
 pub record Outside : Type 0 where
@@ -53,7 +52,7 @@ status_of SinkFault = 5
 status_of OverBudget = 7
 status_of NoMemory = 9
 
--- How a run ended: none of the answers but the last ends a run, and where the last one does, that ended it.
+-- How a session ended: none of the answers but the last ends it, and where the last one does, that ended it.
 -- beyond: the bytes taken beyond the budget; met_end: whether the input's end was met; told: the rounds whose answer was
 -- written whole; untold: those whose answer was not; cut: what was written of it; lost: what was not; unasked: the requests that
 -- have no round
@@ -61,7 +60,7 @@ abbrev pub Ends : ℕ → Outside → Outside → List ℕ → List ℕ → Bool
 Ends budget old new read beyond met_end told untold cut lost unasked Ended =
     GoOn told × (beyond ≡ []) × (met_end ≡ true) × (unasked ≡ []) × (untold ≡ [])
 Ends budget old new read beyond met_end told untold cut lost unasked Closed =
-    ((front : List Round) × (last : Round) × (told ≡ front ++ last ∷ []) × GoOn front × (ends_run last.reply ≡ true)) × (beyond ≡ []) × (untold ≡ [])
+    ((front : List Round) × (last : Round) × (told ≡ front ++ last ∷ []) × GoOn front × (last.request.closes last.reply ≡ true)) × (beyond ≡ []) × (untold ≡ [])
 Ends budget old new read beyond met_end told untold cut lost unasked SourceFault =
     GoOn told × (beyond ≡ []) × (met_end ≡ false) × (unasked ≡ []) × (untold ≡ []) × Rose old.source_faults new.source_faults
 Ends budget old new read beyond met_end told untold cut lost unasked OverBudget =
@@ -72,9 +71,10 @@ Ends budget old new read beyond met_end told untold cut lost unasked NoMemory =
     GoOn told × (beyond ≡ []) × (length untold ≡ 1) × (cut ≡ [])
 
 -- A session from a stage, over a journal of this size: what was read, asked, answered and written, what ended it, and what a
--- crash at any moment left. `Asks` is what a text asks, `Stands` says for which world the store stands at the end, `tells`
--- whether the store tells its content, and `store` what it tells at the end.
-pub record IsSession (terms : Terms) (Asks : Items Request) (Stands : World → Type 0) (tells : Bool) (budget : ℕ) (store : View) (old new : Outside) (first : Stage) (marks : List Mark) (status : ℕ) : Type 0 where
+-- crash at any moment left. `Asks` is what a text asks and how that is answered, be it the lines of a script or the requests of a
+-- protocol. `Stands` says at which stage the session stands at the end, `tells` whether the store tells its content, and `store`
+-- what it tells at the end.
+pub record IsSession (terms : Terms) (Asks : Items Request) (Stands : Stage → Type 0) (tells : Bool) (budget : ℕ) (store : View) (old new : Outside) (first : Stage) (marks : List Mark) (status : ℕ) : Type 0 where
   -- the bytes taken from the source, within the budget and beyond it
   pub read : List ℕ
   pub beyond : List ℕ
@@ -88,7 +88,7 @@ pub record IsSession (terms : Terms) (Asks : Items Request) (Stands : World → 
   pub unasked : List Request
   pub asks : asked (told ++ untold) ++ unasked ≡ Asks read met_end
   pub run : IsRun terms tells old.folder first (told ++ untold)
-  pub stands : Stands (stage_after first (told ++ untold)).world
+  pub stands : Stands (stage_after first (told ++ untold))
   -- what was written
   pub cut : List ℕ
   pub lost : List ℕ
@@ -110,7 +110,8 @@ pub record IsSession (terms : Terms) (Asks : Items Request) (Stands : World → 
   pub ending : Ending
   pub ends : Ends budget old new read beyond met_end told untold cut lost unasked ending
   pub first_cause : status ≡ status_from (told ++ untold) (status_of ending)
-  -- Up to the first fault or want of memory all answers and worlds are the machine's, for the bytes that were read and the
-  -- folder's texts. Where the folder tells nothing, so it is up to the first `configure` as well.
-  pub fixed : AreTold tells (calm old.folder (told ++ untold))
-      (machine_run terms (texts_told old.folder) first (take (length (calm old.folder (told ++ untold))) (Asks read met_end)))
+  -- Up to the first fault or want of memory all answers and worlds are the machine's, for the bytes that were read, the folder's
+  -- texts and the moments. Where the folder tells nothing, so it is up to the first `configure` as well, and where a clock tells
+  -- nothing up to the first event.
+  pub fixed : AreTold tells (calm old.folder first.moments (told ++ untold))
+      (machine_run terms (texts_told old.folder) first (take (length (calm old.folder first.moments (told ++ untold))) (Asks read met_end)))

@@ -17,8 +17,9 @@ pub struct Mark {
 #[derive(Drop)]
 pub struct Session<B, P> {
     pub engine: Engine<B, P>,
-    /// The moment of the events, in seconds. It never goes back.
-    pub moment: u64,
+    /// The session's own moment, in seconds, which its events have and `at` moves on. It never goes back. Where it has none, each
+    /// event takes the next one of a clock.
+    pub own_moment: Option<u64>,
     /// One for each answer that was written whole.
     pub marks: Vec<Mark>,
     /// 2 where the first cause was a bad journal, 3 where it was a fault of the store or of the folder, 9 where it was want of
@@ -26,12 +27,12 @@ pub struct Session<B, P> {
     pub status: u8,
 }
 
-/// What ended a run.
+/// What ended a session.
 #[derive(Clone, Copy, Debug, PartialEq, Eq)]
 pub enum Ending {
     /// The input's end was met.
     Ended,
-    /// An answer ends the run: the journal is bad.
+    /// An answer ended it.
     Closed,
     /// The source failed.
     SourceFault,

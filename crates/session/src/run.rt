@@ -1,21 +1,22 @@
 //! Runs.
 
-ghost use Rattle.std.specs.Prelude.{◌≡◌, ◌≢◌, ◌≤◌, ℕ, [], false, Bool, IsTrue, List as Seq};
+ghost use Rattle.std.specs.Prelude.{◌≡◌, ◌≢◌, ◌≤◌, ℕ, [], false, Bool, IsTrue, IsSome, List as Seq};
 ghost use Rattle.site_history.specs.Terms.{Terms};
 ghost use Rattle.input.specs.Reading.{Begins};
 ghost use Rattle.site_history.specs.Steps.{HistoryStep};
 ghost use Rattle.site_history.specs.Images.{IsSettled};
 ghost use Rattle.site_history.specs.Journals.{IsBadJournal};
-ghost use Rattle.engine.specs.StandsFor.{StandsFor};
-ghost use Rattle.session.specs.Asking.{asks_of};
 ghost use Rattle.session.specs.Rounds.{Stage, first_of};
+ghost use Rattle.session.specs.Standing.{StandsAt};
 ghost use Rattle.session.specs.Kept.{Passes};
 ghost use Rattle.session.specs.Session.{IsSession, seen, status_of};
 ghost use Rattle.session.specs.Refusing.{TellsRefusal, status_of_shut};
 ghost use Rattle.session.specs.Outcomes.{journal_bytes, IsRefused, IsOutcome, HasStatus};
 
-use crate::hearing::{Heard, hear};
+use crate::heard::Heard;
 use crate::kept::{Ending, Mark, Session};
+use crate::lines::Lines;
+use crate::protocol::Protocol;
 use crate::round::{first_cause, one_round};
 use bank::Bank;
 use base::List;
@@ -41,29 +42,32 @@ pub struct Outcome<B, P> {
     pub patterns: P,
 }
 
-/// Answers the lines of an input until it ends, or a cause ends the run. An answer that is a fault of the store or of the folder
-/// ends nothing.
-pub fn converse<B: Bank, P: Drop, F: Folder, I: Source, O: Sink>(
+/// Answers the requests of an input until it ends, or a cause ends the session. An answer that is a fault of the store or of the
+/// folder ends nothing.
+pub fn converse<B: Bank, P: Drop, F: Folder, C: Clock, L: Protocol, I: Source, O: Sink>(
     alloc: Global,
     session: &mut Session<B, P>,
     folder: &mut F,
-    reader: &mut Reader,
+    clock: &mut C,
+    protocol: &mut L,
     input: &mut I,
     output: &mut O,
 ) -> Ending
     requires marks { session.old.marks.items ≡ [] }
     requires status { session.old.status ≡ 0 }
     requires ready { session.old.engine.due ≡ false }
-    requires fresh { Begins reader.old.budget reader.old }
-    ensures session { (terms : Terms) (told : Bool) → (IsTrue told → IsTrue B.tells) → (stage : Stage) → StandsFor terms told B.view session.old.engine stage.world → session.old.moment ≡ stage.now
-        → IsSession terms asks_of (StandsFor terms told B.view session.new.engine) told reader.old.budget (B.view session.new.engine.bank)
+    requires fresh { Begins (L.reading protocol.old).budget (L.reading protocol.old) }
+    ensures session { (terms : Terms) (told : Bool) → (IsTrue told → IsTrue B.tells) → (stage : Stage) → StandsAt terms told B.view session.old.engine session.old.own_moment (C.moments clock.old) stage
+        → IsSession terms L.asks (StandsAt terms told B.view session.new.engine session.new.own_moment (C.moments clock.new)) told
+        (L.reading protocol.old).budget (B.view session.new.engine.bank)
         (seen I.left I.faults O.written O.faults F.texts F.faults B.faults B.journal_faults B.last_fault B.view input.old output.old folder.old session.old.engine.bank)
         (seen I.left I.faults O.written O.faults F.texts F.faults B.faults B.journal_faults B.last_fault B.view input.new output.new folder.new session.new.engine.bank)
         stage session.new.marks.items (first_of session.new.status (status_of result)) }
     // Time goes on.
-    ensures passes { (terms : Terms) (told : Bool) → (IsTrue told → IsTrue B.tells) → (stage : Stage) → StandsFor terms told B.view session.old.engine stage.world → session.old.moment ≡ stage.now
+    ensures passes { (terms : Terms) (told : Bool) → (IsTrue told → IsTrue B.tells) → (stage : Stage) → StandsAt terms told B.view session.old.engine session.old.own_moment (C.moments clock.old) stage
         → IsTrue told → Passes (B.view session.old.engine.bank) (B.view session.new.engine.bank) }
     ensures size { session.new.engine.journal.size ≡ session.old.engine.journal.size }
+    ensures clock { IsSome session.old.own_moment → clock.new ≡ clock.old }
     ensures folder_texts { F.texts folder.new ≡ F.texts folder.old }
     ensures folder_later { F.faults folder.old ≤ F.faults folder.new }
     ensures source_later { I.faults input.old ≤ I.faults input.new }
@@ -73,19 +77,21 @@ pub fn converse<B: Bank, P: Drop, F: Folder, I: Source, O: Sink>(
     ensures sink_beside { O.beside output.new ≡ O.beside output.old }
     ensures patterns { session.new.engine.patterns ≡ session.old.engine.patterns }
 {
-    'lines: loop {
-        match hear(alloc, reader, input) {
+    'requests: loop {
+        match protocol.hear(alloc, input) {
             Heard::Skipped => {}
-            Heard::Asks(asked) => match one_round(alloc, session, folder, asked, output) {
-                Some(ending) => return ending,
-                None => {}
-            },
+            Heard::Asks(asked, form) => {
+                match one_round(alloc, session, folder, clock, protocol, asked, form, output) {
+                    Some(ending) => return ending,
+                    None => {}
+                }
+            }
             Heard::Stopped(ending) => return ending,
         }
     }
 }
 
-/// The status of what ended a run.
+/// The status of what ended a session.
 fn code(ending: Ending) -> u8
     ensures { result ≡ status_of ending }
 {
@@ -178,7 +184,6 @@ pub fn run_lines<B: Bank, C: Clock, F: Folder, P: Patterns, I: Source, O: Sink>(
     ensures source_beside { I.beside input.new ≡ I.beside input.old }
     ensures sink_beside { O.beside output.new ≡ O.beside output.old }
 {
-    let _ = clock;
     let engine = match Engine::reopen(alloc, bank, patterns, JOURNAL_BYTES) {
         Ok(engine) => engine,
         Err(shut) => {
@@ -196,16 +201,25 @@ pub fn run_lines<B: Bank, C: Clock, F: Folder, P: Patterns, I: Source, O: Sink>(
             };
         }
     };
-    let moment = engine.clock;
+    let own_moment = Some(engine.clock);
     let mut session = Session {
         engine,
-        moment,
+        own_moment,
         marks: Vec::new(alloc),
         status: 0,
     };
-    let Ok(mut reader) = Reader::new(alloc, budget) else {
+    let Ok(reader) = Reader::new(alloc, budget) else {
         return hand_back(session, 9);
     };
-    let ending = converse(alloc, &mut session, folder, &mut reader, input, output);
+    let mut lines = Lines { reader };
+    let ending = converse(
+        alloc,
+        &mut session,
+        folder,
+        clock,
+        &mut lines,
+        input,
+        output,
+    );
     hand_back(session, code(ending))
 }

@@ -1,0 +1,18 @@
+-- Where a session stands, and how a round moves it.
+use Rattle.std.specs.Prelude.{◌≡◌, ℕ, List, Bool, Option}
+use Rattle.bank.specs.View.{View}
+use Rattle.engine.specs.declared.kept.Engine.{Engine}
+use Rattle.engine.specs.StandsFor.{StandsFor, Moves}
+use Rattle.session.specs.Rounds.{Stage, moments_of}
+use Rattle.site_history.specs.Terms.{Terms}
+
+-- The engine stands for the world of a stage, and its moments are those to come: the session's own moment, or else those that a
+-- clock tells.
+pub record StandsAt (terms : Terms) {B P : Type 0} (told : Bool) (view : B → View) (engine : Engine B P) (own_moment : Option ℕ) (clock : Option (List ℕ)) (stage : Stage) : Type 0 where
+  pub world : StandsFor terms told view engine stage.world
+  pub moments : stage.moments ≡ moments_of own_moment clock
+
+-- From a stage the engine was moved to the world of another, and the moments then to come are that stage's.
+pub record IsMoved (terms : Terms) {B P : Type 0} (told : Bool) (view : B → View) (old new : Engine B P) (own_moment : Option ℕ) (clock : Option (List ℕ)) (stage stage' : Stage) : Type 0 where
+  pub world : Moves terms told view old new stage.world stage'.world
+  pub moments : stage'.moments ≡ moments_of own_moment clock
