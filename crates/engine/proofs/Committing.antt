@@ -5,6 +5,7 @@ use Rattle.bank.specs.Content.{Image}
 use Rattle.bank.specs.View.{View, IsImage, IsSound, LeavesOnly, Wrote}
 use Rattle.bank.proofs.Moments.{weakened}
 use Rattle.journal.specs.Records.{AllHold, IsBeforeOrAfter, end_of}
+use Rattle.site_history.specs.Terms.{Terms}
 use Rattle.site_history.specs.Site.{Site}
 use Rattle.site_history.specs.Steps.{HistoryStep, fields_after, effect}
 use Rattle.site_history.specs.Histories.{after, IsHistory, written_forms}

@@ -11,7 +11,7 @@ ghost use Rattle.session.specs.Standing.{StandsAt};
 ghost use Rattle.session.specs.Kept.{Passes};
 ghost use Rattle.session.specs.Session.{IsSession, seen, status_of};
 ghost use Rattle.session.specs.Refusing.{TellsRefusal, status_of_shut};
-ghost use Rattle.session.specs.Outcomes.{journal_bytes, IsRefused, IsOutcome, HasStatus};
+ghost use Rattle.session.specs.Outcomes.{run_terms, journal_bytes, IsRefused, IsOutcome, HasStatus};
 
 use crate::heard::Heard;
 use crate::kept::{Ending, Mark, Session};
