@@ -9,6 +9,7 @@ use Rattle.site_events.specs.declared.reply.Rule.{Rule}
 use Rattle.site_history.specs.Terms.{Terms}
 use Rattle.site_history.specs.Site.{Site, file_at}
 use Rattle.site_history.specs.Steps.{HistoryStep, IsLegal, HasBytes}
+use Rattle.site_history.specs.Running.{Running}
 use Rattle.site_history.specs.Answers.{answer_to}
 use Rattle.site_history.specs.ConfigureAnswers.{configure_refusal, configure_answer_by}
 use Rattle.site_history.specs.FileAnswers.{put_rule, put_answer_by, read_answer_of, remove_answer_of}
@@ -28,28 +29,28 @@ abbrev pub StepMayBeMade : (terms : Terms) → Site → ℕ → Option HistorySt
 StepMayBeMade terms site moment None = Unit {0}
 StepMayBeMade terms site moment (Some made) = MayBeMade terms site moment made
 
-module _ (terms : Terms) (count : ℕ) (site : Site) (kept : IsKept count site.fields) (moment : ℕ) (later : site.fields.moment ≤ moment) (range : moment < 2 ^ 40) where
+module _ (terms : Terms) (count : ℕ) (site : Site) (kept : IsKept count site.fields) (running : Running) (moment : ℕ) (later : site.fields.moment ≤ moment) (range : moment < 2 ^ 40) where
   put_by : (path owner group bytes : List ℕ) (o : Option Rule) → put_rule site.fields path owner group (length bytes) ≡ o
-      → StepMayBeMade terms site moment (put_answer_by o site.fields moment path owner group bytes).step
+      → StepMayBeMade terms site moment (put_answer_by o site.fields running moment path owner group bytes).step
   put_by path owner group bytes (Some rule) e = tt
   put_by path owner group bytes None e = record { legal = put_legal terms count site.fields kept path owner group (length bytes) e moment later range; bytes = refl; moment_is = refl }
 
-  read_by : (path : List ℕ) (upto : ℕ) (o : Option FileRec) → file_at path site.fields.files ≡ o → StepMayBeMade terms site moment (read_answer_of o site.contents moment upto).step
+  read_by : (path : List ℕ) (upto : ℕ) (o : Option FileRec) → file_at path site.fields.files ≡ o → StepMayBeMade terms site moment (read_answer_of o site.contents running moment upto).step
   read_by path upto None e = tt
   read_by path upto (Some file) e = record { legal = accessed_legal terms count site.fields file (found-file count site.fields kept path file e).0 moment later range; bytes = refl; moment_is = refl }
 
-  remove_by : (path : List ℕ) (o : Option FileRec) → file_at path site.fields.files ≡ o → StepMayBeMade terms site moment (remove_answer_of o moment).step
+  remove_by : (path : List ℕ) (o : Option FileRec) → file_at path site.fields.files ≡ o → StepMayBeMade terms site moment (remove_answer_of o running moment).step
   remove_by path None e = tt
   remove_by path (Some file) e = record { legal = removed_legal terms count site.fields file (found-file count site.fields kept path file e).0 moment later range; bytes = refl; moment_is = refl }
 
-  configure_by : (texts : SiteTexts) (o : Option Reply) → configure_refusal site.fields texts ≡ o → StepMayBeMade terms site moment (configure_answer_by o moment texts).step
+  configure_by : (texts : SiteTexts) (o : Option Reply) → configure_refusal site.fields texts ≡ o → StepMayBeMade terms site moment (configure_answer_by o running moment texts).step
   configure_by texts (Some reply) e = tt
   configure_by texts None e =
       let admitted = configure-admitted site.fields texts e in
       record { legal = configure-legal terms site.fields moment texts admitted.no_file admitted.within admitted.read later range; bytes = refl; moment_is = refl }
 
   -- the step of an answer
-  pub answered : (event : Event) → StepMayBeMade terms site moment (answer_to terms site moment event).step
+  pub answered : (event : Event) → StepMayBeMade terms site moment (answer_to terms site running moment event).step
   answered (PutEvent path owner group bytes) = put_by path owner group bytes (put_rule site.fields path owner group (length bytes)) refl
   answered (ReadEvent path upto) = read_by path upto (file_at path site.fields.files) refl
   answered (RemoveEvent path) = remove_by path (file_at path site.fields.files) refl

@@ -7,7 +7,7 @@ use Rattle.site_history.specs.Site.{Site, first_site}
 use Rattle.site_history.specs.Steps.{HistoryStep, effect, IsLegal, HasBytes}
 use Rattle.site_history.specs.Histories.{after_from, after, IsHistoryFrom, IsHistory, journal_length}
 
-after_from-push : (terms : Terms) (site : Site) (steps : List HistoryStep) (made : HistoryStep) → after_from terms site (steps ++ made ∷ []) ≡ effect terms made (after_from terms site steps)
+pub after_from-push : (terms : Terms) (site : Site) (steps : List HistoryStep) (made : HistoryStep) → after_from terms site (steps ++ made ∷ []) ≡ effect terms made (after_from terms site steps)
 after_from-push terms site [] made = refl
 after_from-push terms site (s ∷ steps) made = after_from-push terms (effect terms s site) steps made
 
@@ -15,7 +15,7 @@ after_from-push terms site (s ∷ steps) made = after_from-push terms (effect te
 pub after-push : (terms : Terms) (steps : List HistoryStep) (made : HistoryStep) → after terms (steps ++ made ∷ []) ≡ effect terms made (after terms steps)
 after-push terms steps made = after_from-push terms first_site steps made
 
-history_from-push : (terms : Terms) (site : Site) (steps : List HistoryStep) (made : HistoryStep) → IsHistoryFrom terms site steps → IsLegal terms (after_from terms site steps).fields made.step → HasBytes made → IsHistoryFrom terms site (steps ++ made ∷ [])
+pub history_from-push : (terms : Terms) (site : Site) (steps : List HistoryStep) (made : HistoryStep) → IsHistoryFrom terms site steps → IsLegal terms (after_from terms site steps).fields made.step → HasBytes made → IsHistoryFrom terms site (steps ++ made ∷ [])
 history_from-push terms site [] made h legal bytes = (legal, bytes, tt)
 history_from-push terms site (s ∷ steps) made h legal bytes = (h.0, h.1, history_from-push terms (effect terms s site) steps made h.2 legal bytes)
 
@@ -55,7 +55,7 @@ pub history-keeps : (terms : Terms) (P : Site → Type 0) → P first_site → (
 history-keeps terms P first step steps h = history_from-keeps terms P step first_site steps first h
 
 -- the same of what counts the steps, and asks for their bytes
-history_from-counts : (terms : Terms) (P : ℕ → Site → Type 0)
+pub history_from-counts : (terms : Terms) (P : ℕ → Site → Type 0)
     → ((count : ℕ) (site : Site) (made : HistoryStep) → P count site → IsLegal terms site.fields made.step → HasBytes made → P (count + 1) (effect terms made site))
     → (count : ℕ) (site : Site) (steps : List HistoryStep) → P count site → IsHistoryFrom terms site steps → P (count + length steps) (after_from terms site steps)
 history_from-counts terms P step count site [] p h = subst (λ (n : ℕ). P n site) (let e : count ≡ count + 0 = omega arith in e) p

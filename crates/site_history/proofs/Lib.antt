@@ -21,6 +21,8 @@ pub mod StepRanges
 pub mod Puts
 pub mod Accesses
 pub mod Configuring
+pub mod WorldLaws
+pub mod Between
 pub mod Turns
 pub mod Answered
 pub mod Refusing

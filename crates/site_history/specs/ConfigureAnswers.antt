@@ -2,14 +2,15 @@
 use Rattle.std.specs.Prelude.{◌≡◌, ◌⊎◌, ℕ, nat_lt, Bool, not, if◌then◌else◌, Option, Some, None, option_map, [], length}
 use Rattle.site_events.specs.declared.reply.Reply.{Reply}
 use Rattle.site_events.specs.declared.reply.Reply.TheVariants.{Done, Refused, ConfRefused, BankFault, NoMemory}
-use Rattle.site_events.specs.declared.reply.Rule.TheVariants.{TooLarge, Running}
+use Rattle.site_events.specs.declared.reply.Rule.TheVariants.{TooLarge, Running as IsRunning}
 use Rattle.site_types.specs.declared.file.SiteTexts.{SiteTexts}
 use Rattle.site_types.specs.declared.step.StepKind.TheVariants.{Configured}
 use Rattle.configuration.specs.declared.read.FileRefusal.{FileRefusal}
 use Rattle.configuration.specs.ConfigurationRules.{AreWithin, IsFirstWrong}
 use Rattle.configuration.specs.ConfigurationSteps.{are_within, refusal_of}
 use Rattle.site_history.specs.Site.{Fields}
-use Rattle.site_history.specs.Replies.{Answer, bare_step}
+use Rattle.site_history.specs.Running.{Running}
+use Rattle.site_history.specs.Replies.{Answer, tells, makes, bare_step}
 
 -- a command file that is wrong is told by its first wrong line
 abbrev pub conf_refused : FileRefusal → Reply
@@ -21,16 +22,16 @@ has_files fields = nat_lt 0 (length fields.files)
 -- Why a site is not configured by these texts: a file is there, or a text is over its limit, or one is wrong at a line.
 abbrev pub configure_refusal : Fields → SiteTexts → Option Reply
 configure_refusal fields texts =
-    if has_files fields then Some (Refused Running) else
+    if has_files fields then Some (Refused IsRunning) else
     if not (are_within texts) then Some (Refused TooLarge) else
     option_map conf_refused (refusal_of texts)
 
-abbrev pub configure_answer_by : Option Reply → ℕ → SiteTexts → Answer
-configure_answer_by (Some reply) moment texts = record { reply = reply; step = None }
-configure_answer_by None moment texts = record { reply = Done 0; step = Some (bare_step moment (Configured texts)) }
+abbrev pub configure_answer_by : Option Reply → Running → ℕ → SiteTexts → Answer
+configure_answer_by (Some reply) running moment texts = tells running reply
+configure_answer_by None running moment texts = makes running (Done 0) (bare_step moment (Configured texts))
 
-abbrev pub configure_answer : Fields → ℕ → SiteTexts → Answer
-configure_answer fields moment texts = configure_answer_by (configure_refusal fields texts) moment texts
+abbrev pub configure_answer : Fields → Running → ℕ → SiteTexts → Answer
+configure_answer fields running moment texts = configure_answer_by (configure_refusal fields texts) running moment texts
 
 -- A reply to a configuration by these texts tells that a command file is wrong where that file, at that line and with that fault, is
 -- the first that is wrong, the site has no file and each text is within its limit, and nowhere else. A fault of the store or want

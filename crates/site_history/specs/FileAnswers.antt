@@ -12,7 +12,8 @@ use Rattle.cache_space.specs.Blocks.{blocks_for, free_blocks, lowest_runs}
 use Rattle.site_history.specs.Site.{Fields, FileBytes, file_at, held_runs, bytes_of, cache_blocks}
 use Rattle.site_history.specs.PutSteps.{inode_for}
 use Rattle.site_history.specs.Steps.{HistoryStep}
-use Rattle.site_history.specs.Replies.{Answer, refused, bare_step}
+use Rattle.site_history.specs.Running.{Running}
+use Rattle.site_history.specs.Replies.{Answer, refused, makes, bare_step}
 
 -- what a put stores: it takes the lowest free blocks
 abbrev pub put_for : Fields → List ℕ → List ℕ → List ℕ → ℕ → PutStep
@@ -49,20 +50,20 @@ put_rule fields path owner group size =
     if is_none (file_at path fields.files) && is_full fields then Some TooMany else
     if lacks_space fields size then Some NoSpace else None
 
-abbrev pub put_answer_by : Option Rule → Fields → ℕ → List ℕ → List ℕ → List ℕ → List ℕ → Answer
-put_answer_by (Some rule) fields moment path owner group bytes = refused rule
-put_answer_by None fields moment path owner group bytes =
-    record { reply = Stored (inode_for fields path) (is_none (file_at path fields.files)); step = Some (put_step fields moment path owner group bytes) }
+abbrev pub put_answer_by : Option Rule → Fields → Running → ℕ → List ℕ → List ℕ → List ℕ → List ℕ → Answer
+put_answer_by (Some rule) fields running moment path owner group bytes = refused running rule
+put_answer_by None fields running moment path owner group bytes =
+    makes running (Stored (inode_for fields path) (is_none (file_at path fields.files))) (put_step fields moment path owner group bytes)
 
-abbrev pub put_answer : Fields → ℕ → List ℕ → List ℕ → List ℕ → List ℕ → Answer
-put_answer fields moment path owner group bytes = put_answer_by (put_rule fields path owner group (length bytes)) fields moment path owner group bytes
+abbrev pub put_answer : Fields → Running → ℕ → List ℕ → List ℕ → List ℕ → List ℕ → Answer
+put_answer fields running moment path owner group bytes = put_answer_by (put_rule fields path owner group (length bytes)) fields running moment path owner group bytes
 
 -- the first bytes of a file, which is whole; it is accessed
-abbrev pub read_answer_of : Option FileRec → List FileBytes → ℕ → ℕ → Answer
-read_answer_of None contents moment upto = refused NoFile
-read_answer_of (Some file) contents moment upto =
-    record { reply = Bytes (take upto (bytes_of contents file.inode)); step = Some (bare_step moment (Accessed file.inode)) }
+abbrev pub read_answer_of : Option FileRec → List FileBytes → Running → ℕ → ℕ → Answer
+read_answer_of None contents running moment upto = refused running NoFile
+read_answer_of (Some file) contents running moment upto =
+    makes running (Bytes (take upto (bytes_of contents file.inode))) (bare_step moment (Accessed file.inode))
 
-abbrev pub remove_answer_of : Option FileRec → ℕ → Answer
-remove_answer_of None moment = refused NoFile
-remove_answer_of (Some file) moment = record { reply = Done file.inode; step = Some (bare_step moment (Removed file.inode)) }
+abbrev pub remove_answer_of : Option FileRec → Running → ℕ → Answer
+remove_answer_of None running moment = refused running NoFile
+remove_answer_of (Some file) running moment = makes running (Done file.inode) (bare_step moment (Removed file.inode))

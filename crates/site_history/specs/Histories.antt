@@ -1,5 +1,5 @@
 -- Histories: lists of steps, each legal in its place.
-use Rattle.std.specs.Prelude.{ℕ, ◌+◌, List, [], ◌∷◌, length, map}
+use Rattle.std.specs.Prelude.{◌≡◌, ℕ, ◌+◌, List, [], ◌∷◌, ◌++◌, length, map}
 use Rattle.step_codec.specs.Written.{written}
 use Rattle.site_history.specs.Terms.{Terms}
 use Rattle.site_history.specs.Site.{Site, first_site}
@@ -28,3 +28,7 @@ journal_length (made ∷ steps) = 5 + length (written made.step) + journal_lengt
 -- the written forms of a history
 abbrev pub written_forms : List HistoryStep → List (List ℕ)
 written_forms steps = map (λ (made : HistoryStep). written made.step) steps
+
+-- the second list of steps goes on from the first
+abbrev pub Begins : List HistoryStep → List HistoryStep → Type 0
+Begins front whole = (more : List HistoryStep) × (whole ≡ front ++ more)

@@ -8,8 +8,8 @@ use Rattle.site_history.specs.Terms.{Terms}
 use Rattle.site_history.specs.Site.{FileBytes, Site, bytes_of}
 use Rattle.site_history.specs.Extents.{Extent, AllStand, extents_over}
 use Rattle.site_history.specs.Steps.{HistoryStep}
-use Rattle.site_history.specs.Histories.{after, IsHistory, written_forms}
-use Rattle.site_history.specs.Worlds.{World}
+use Rattle.site_history.specs.Histories.{after, IsHistory, written_forms, Begins}
+use Rattle.site_history.specs.Worlds.{World, whole_of}
 
 -- the cached bytes of a file at its runs
 abbrev pub extents_of : List FileBytes → FileRec → List Extent
@@ -40,6 +40,11 @@ pub record IsSettled (terms : Terms) (v : View) (steps : List HistoryStep) : Typ
 -- the image reads as the world's history, or as that with the step that is owed
 abbrev pub ReadsAs : Terms → World → Image → Type 0
 ReadsAs terms w c = Reads terms c w.history ⊎ ((made : HistoryStep) × (w.owed ≡ Some made) × Reads terms c (w.history ++ made ∷ []))
+
+-- The image reads as the first world, or as a history between the two: one that goes on from the first world's, and from which
+-- goes on the second's with the step that is owed.
+abbrev pub ReadsBetween : Terms → World → World → Image → Type 0
+ReadsBetween terms w w' c = ReadsAs terms w c ⊎ ((steps : List HistoryStep) × Begins w.history steps × Begins steps (whole_of w') × Reads terms c steps)
 
 -- settled for the world's history, or for that with the step that is owed
 abbrev pub IsSettledAs : Terms → View → World → Type 0

@@ -9,6 +9,7 @@ pub mod ConfiguredSteps
 pub mod Steps
 pub mod Kept
 pub mod Histories
+pub mod Running
 pub mod Replies
 pub mod FileAnswers
 pub mod ConfigureAnswers
@@ -16,4 +17,5 @@ pub mod Answers
 pub mod Worlds
 pub mod Images
 pub mod Journals
+pub mod Turns
 pub mod Pinned

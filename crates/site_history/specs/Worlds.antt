@@ -1,22 +1,28 @@
--- A world: a history, the clock, and what a fault in the journal left open. And what one event does to it.
-use Rattle.std.specs.Prelude.{◌≡◌, ◌⊎◌, ℕ, ◌+◌, ◌-◌, ◌^◌, min, max, ◌==◌, nat_le, Bool, true, false, if◌then◌else◌, Option, Some, None, List, [], ◌∷◌, ◌++◌, length}
-use Rattle.bank.specs.Content.{Content}
+-- A world: a site with the steps that led to it, what runs, the clock, and what a fault in the journal left open.
+use Rattle.std.specs.Prelude.{◌≡◌, ◌⊎◌, ℕ, ◌+◌, Bool, false, true, Option, Some, None, List, [], ◌∷◌, ◌++◌, length}
 use Rattle.step_codec.specs.Written.{written}
-use Rattle.site_events.specs.declared.event.Event.{Event}
-use Rattle.site_types.specs.declared.file.SiteTexts.{SiteTexts}
-use Rattle.site_events.specs.declared.reply.Reply.{Reply}
-use Rattle.site_events.specs.declared.reply.Reply.TheVariants.{Bytes, NoMemory, JournalFull, BankFault, BadJournal}
 use Rattle.site_history.specs.Terms.{Terms}
-use Rattle.site_history.specs.Site.{Site}
+use Rattle.site_history.specs.Site.{Site, first_site}
 use Rattle.site_history.specs.Steps.{HistoryStep}
-use Rattle.site_history.specs.Histories.{after, IsHistory, journal_length}
-use Rattle.site_history.specs.Journals.{HoldsHistory}
-use Rattle.site_history.specs.Answers.{answer_to}
-use Rattle.site_history.specs.ConfigureAnswers.{TellsFirstWrong}
-use Rattle.site_history.specs.Replies.{Answer}
+use Rattle.site_history.specs.Kept.{IsKept, HaveAllBytes}
+use Rattle.site_history.specs.Histories.{after_from, after, IsHistoryFrom, journal_length}
+use Rattle.site_history.specs.Running.{Running, nothing_runs}
+
+-- a site, with the number of steps that led to it
+pub record Base : Type 0 where
+  pub steps : ℕ
+  pub site : Site
+
+abbrev pub first_base : Base
+first_base = record { steps = 0; site = first_site }
 
 pub record World : Type 0 where
+  pub base : Base
+  -- the steps behind the base
   pub history : List HistoryStep
+  -- where the next record goes in the journal's area, in bytes
+  pub place : ℕ
+  pub running : Running
   -- the moment of the last event, in seconds
   pub clock : ℕ
   -- whether the journal is to be read again before the next event
@@ -25,111 +31,76 @@ pub record World : Type 0 where
   pub owed : Option HistoryStep
 
 abbrev pub site_of : Terms → World → Site
-site_of terms w = after terms w.history
+site_of terms w = after_from terms w.base.site w.history
 
--- a world in which nothing is open
+-- how many steps led to its site
+abbrev pub steps_of : World → ℕ
+steps_of w = w.base.steps + length w.history
+
+-- ---- worlds in which nothing is open
+
+-- a world of this history from the first site, whose records stand in the journal; nothing runs
 abbrev pub at : List HistoryStep → ℕ → World
-at history clock = record { history = history; clock = clock; due = false; owed = None }
+at history clock = record {
+  base = first_base;
+  history = history;
+  place = journal_length history;
+  running = nothing_runs;
+  clock = clock;
+  due = false;
+  owed = None;
+}
 
 -- a world as opening gives it: its clock is the moment of the last step
 abbrev pub new_world : Terms → List HistoryStep → World
 new_world terms history = at history (after terms history).fields.moment
 
--- the moment of an event: the clock never goes back, and moments are below 2^40
-abbrev pub moment_of : ℕ → ℕ → ℕ
-moment_of clock now = max clock (min now (2 ^ 40 - 1))
+-- What holds of every site after so many steps holds of the base, and each step behind it is legal in its place.
+pub record IsOnKeptBase (terms : Terms) (w : World) : Type 0 where
+  pub fields : IsKept w.base.steps w.base.site.fields
+  pub bytes : HaveAllBytes w.base.site
+  pub history : IsHistoryFrom terms w.base.site w.history
 
--- whether a journal of this size has room for the record of a further step and the closed gate behind it
-abbrev pub has_room : Terms → List HistoryStep → Option HistoryStep → Bool
-has_room terms history None = true
-has_room terms history (Some made) = nat_le (journal_length history + 6 + length (written made.step)) terms.size
+-- It stands on the first site, and the next record goes behind those of its history.
+pub record IsFromFirst (w : World) : Type 0 where
+  pub base : w.base ≡ first_base
+  pub place : w.place ≡ journal_length w.history
 
--- the answer to an event at a moment, where the journal has this size
-abbrev pub answer_in : Terms → List HistoryStep → ℕ → Event → Answer
-answer_in terms history moment event = let answer = answer_to terms (after terms history) moment event in
-    if has_room terms history answer.step then answer else (record { reply = JournalFull; step = None })
+-- on any kept base, nothing runs and nothing is open
+pub record IsFreshWorld (terms : Terms) (w : World) : Type 0 where
+  pub kept : IsOnKeptBase terms w
+  pub idle : w.running ≡ nothing_runs
+  pub ready : w.due ≡ false
+  pub nothing_owed : w.owed ≡ None
 
--- the history with the step of an answer
+-- ---- how a world goes on
+
+-- the world at another moment
+abbrev pub at_moment : ℕ → World → World
+at_moment moment w = record w { clock = moment }
+
+-- the history with a step
 abbrev pub with_step : List HistoryStep → Option HistoryStep → List HistoryStep
 with_step history None = history
 with_step history (Some made) = history ++ made ∷ []
 
--- The reply is the one that is defined. Where the store tells nothing, the bytes of a reply are right in their number alone.
-abbrev pub IsReply : Bool → Reply → Reply → Type 0
-IsReply true defined reply = reply ≡ defined
-IsReply false (Bytes defined) reply = (bytes : List ℕ) × (reply ≡ Bytes bytes) × (length bytes ≡ length defined)
-IsReply false defined reply = reply ≡ defined
+-- where the next record goes behind that of a step: it has a gate, a length of four bytes and the written form
+abbrev pub place_behind : ℕ → Option HistoryStep → ℕ
+place_behind place None = place
+place_behind place (Some made) = place + (5 + length (written made.step))
 
--- what becomes of a world: the answer as defined is given, or the world stays, or a step is owed
-pub data Course : Type 0 where
-  Goes : Course
-  Stays : Course
-  Owes : Course
+-- the step is made
+abbrev pub made_in : Option HistoryStep → World → World
+made_in step w = record w { history = with_step w.history step; place = place_behind w.place step }
 
--- by the reply, and by the area of the store's last fault: area 0 is the journal
-abbrev pub course_of : Reply → ℕ → Course
-course_of NoMemory area = Stays
-course_of BankFault area = if area == 0 then Owes else Stays
-course_of _ area = Goes
+-- the journal failed at its record: nothing runs, and the step is owed
+abbrev pub owing_in : Option HistoryStep → World → World
+owing_in step w = record w { running = nothing_runs; due = true; owed = step }
 
-abbrev pub TurnBy : Course → Bool → Answer → List HistoryStep → ℕ → Reply → World → Type 0
-TurnBy Goes told answer history moment reply w' = IsReply told answer.reply reply × (w' ≡ at (with_step history answer.step) moment)
-TurnBy Stays told answer history moment reply w' = w' ≡ at history moment
-TurnBy Owes told answer history moment reply w' = w' ≡ record { history = history; clock = moment; due = true; owed = answer.step }
-
--- One event over a history with nothing open; `told` is whether the store tells its content. The reply is the one that is
--- defined, and its step is made; or the reply is want of memory or a fault of the store outside the journal, and the world is
--- as before but for its clock; or it is a fault in the journal, and the step is owed.
-abbrev pub Turn : Terms → Bool → List HistoryStep → Event → ℕ → ℕ → Reply → World → Type 0
-Turn terms told history event moment area reply w' = TurnBy (course_of reply area) told (answer_in terms history moment event) history moment reply w'
+-- the history with the step that is owed, if one is
+abbrev pub whole_of : World → List HistoryStep
+whole_of w = with_step w.history w.owed
 
 -- the history, or that with the step that is owed
 abbrev pub IsWithOrWithout : World → List HistoryStep → Type 0
 IsWithOrWithout w steps = (steps ≡ w.history) ⊎ ((made : HistoryStep) × (w.owed ≡ Some made) × (steps ≡ w.history ++ made ∷ []))
-
--- Where a reopening leads: to the history or to that with the step that is owed, whichever the journal's area, as it read when
--- the event began, holds the records of. A store that tells nothing may lead to any history, that of the journal as it was read.
-abbrev pub IsReopened : Terms → Bool → Content → World → List HistoryStep → Type 0
-IsReopened terms true read w steps = IsWithOrWithout w steps × HoldsHistory terms read steps
-IsReopened terms false read w steps = IsHistory terms steps
-
--- the clock then: it stays, but where a store that tells nothing leads to a history that ends later
-abbrev pub clock_from : Terms → Bool → World → List HistoryStep → ℕ
-clock_from terms true w steps = w.clock
-clock_from terms false w steps = max w.clock (after terms steps).fields.moment
-
--- A reopening that is refused, and is still due. A store that tells its content never has a bad journal then.
-abbrev pub RefusesReopening : Bool → Reply → Type 0
-RefusesReopening told BankFault = Unit {0}
-RefusesReopening told NoMemory = Unit {0}
-RefusesReopening told (BadJournal place) = told ≡ false
-RefusesReopening told _ = ⊥
-
--- an event where a reopening is due or not
-abbrev pub EventTurnBy : Terms → Bool → Bool → World → Event → ℕ → ℕ → Content → Reply → World → Type 0
-EventTurnBy terms false told w event now area read reply w' = Turn terms told w.history event (moment_of w.clock now) area reply w'
-EventTurnBy terms true told w event now area read reply w' =
-    ((steps : List HistoryStep) × IsReopened terms told read w steps × Turn terms told steps event (moment_of (clock_from terms told w steps) now) area reply w')
-    ⊎ (RefusesReopening told reply × (w' ≡ w))
-
--- An event in a world: a turn; where a reopening is due, a turn from where that leads, or the reopening is refused. `read` is what
--- the journal's area read when the event began.
-abbrev pub EventTurn : Terms → Bool → World → Event → ℕ → ℕ → Content → Reply → World → Type 0
-EventTurn terms told w event now area read reply w' = EventTurnBy terms w.due told w event now area read reply w'
-
--- the history over which an event is served, where a reopening is due or not: one to which that may lead, or the world's
-abbrev pub IsServedOver : Terms → Bool → Bool → World → Content → List HistoryStep → Type 0
-IsServedOver terms false told w read steps = steps ≡ w.history
-IsServedOver terms true told w read steps = IsReopened terms told read w steps
-
--- An event that configures the site by these texts tells the first command file that is wrong, of the site over which it is
--- served; or a reopening that is due is refused before.
-abbrev pub TellsConfiguration : Terms → Bool → World → Content → SiteTexts → Reply → Type 0
-TellsConfiguration terms told w read texts reply =
-    ((steps : List HistoryStep) × IsServedOver terms w.due told w read steps × TellsFirstWrong (after terms steps).fields texts reply)
-    ⊎ ((w.due ≡ true) × RefusesReopening told reply)
-
--- the history that a store is opened with: that for which it is settled; where it tells nothing, that of the journal as read
-abbrev pub IsFound : Terms → Bool → List HistoryStep → List HistoryStep → Type 0
-IsFound terms true before found = found ≡ before
-IsFound terms false before found = IsHistory terms found
