@@ -25,6 +25,7 @@ use Rattle.site_history.specs.Kept.{IsKept, HaveAllBytes}
 use Rattle.site_history.specs.Answers.{answer_to}
 use Rattle.site_history.specs.ConfigureAnswers.{configure_refusal}
 use Rattle.site_history.specs.FileAnswers.{put_rule, put_made}
+use Rattle.site_history.specs.Running.{Running}
 use Rattle.site_history.specs.Replies.{Answer}
 use Rattle.site_history.proofs.KeptLaws.{IsFileOf, found-file}
 use Rattle.site_history.proofs.Accesses.{read_length}
@@ -53,7 +54,7 @@ same_rule fields a b c path owner group m n e f g h =
     ∙ ap (λ (l : List ℕ). put_rule fields a b l n) (sym g)
     ∙ ap (λ (k : ℕ). put_rule fields a b c k) (sym h)
 
-module _ (terms : Terms) (site : Site) (moment : ℕ) (setting : Option Setting) where
+module _ (terms : Terms) (site : Site) (running : Running) (moment : ℕ) (setting : Option Setting) where
   -- a step that is made ready
   abbrev pub prepared_as : StepKind → Prepared
   prepared_as kind = record { step = record { moment = moment; kind = kind }; setting = setting }
@@ -66,10 +67,10 @@ module _ (terms : Terms) (site : Site) (moment : ℕ) (setting : Option Setting)
       → known ≡ path → size ≡ length bytes → (inode ≡ inode_for site.fields known) × (created ≡ is_none (file_at known site.fields.files))
       → (blocks_for size ≤ length (free_blocks (cache_blocks site.fields) (held_runs site.fields.files))
       → runs ≡ lowest_runs (cache_blocks site.fields) (held_runs site.fields.files) (blocks_for size))
-      → IsPlanOf site (answer_to terms site moment (PutEvent path owner group bytes))
+      → IsPlanOf site running (answer_to terms site running moment (PutEvent path owner group bytes))
       (Make (prepared_as (Put (record { inode = inode; path = path; owner = owner; group = group; length = size; runs = runs }))) (Store bytes (Stored inode created)))
   put_planned path owner group bytes known inode size created runs rule path_is size_is place lowest =
-      let answer = put-stored terms site moment path owner group bytes rule in
+      let answer = put-stored terms site running moment path owner group bytes rule in
       let space = (admitted site.fields path owner group (length bytes) rule).space in
       let runs_are : runs ≡ lowest_runs (cache_blocks site.fields) (held_runs site.fields.files) (blocks_for (length bytes)) =
       lowest (omega (arith, space, size_is)) ∙ ap (λ (n : ℕ). lowest_runs (cache_blocks site.fields) (held_runs site.fields.files) (blocks_for n)) size_is in
@@ -81,21 +82,22 @@ module _ (terms : Terms) (site : Site) (moment : ℕ) (setting : Option Setting)
       ∙ ap (λ (l : List Run). step_of (record { inode = inode_for site.fields path; path = path; owner = owner; group = group; length = length bytes; runs = l })) runs_are in (
         ap (λ (a : Answer). a.step) answer ∙ ap (λ (s : Step). let o : Option HistoryStep = Some (record { step = s; bytes = bytes }) in o) (sym same),
         ap (λ (a : Answer). a.reply) answer ∙ ap (λ (n : ℕ). Stored n (is_none (file_at path site.fields.files))) (sym inode_is) ∙ ap (λ (b : Bool). Stored inode b) (sym created_is),
+        ap (λ (a : Answer). a.running) answer,
       )
 
   -- a configuration that no rule refuses
   pub configuration_planned : (texts : SiteTexts) → configure_refusal site.fields texts ≡ None
-      → IsPlanOf site (answer_to terms site moment (ConfigureEvent texts)) (Make (prepared_as (Configured texts)) (Nothing (Done 0)))
+      → IsPlanOf site running (answer_to terms site running moment (ConfigureEvent texts)) (Make (prepared_as (Configured texts)) (Nothing (Done 0)))
   configuration_planned texts rule =
-      let answer = configure-made terms site moment texts rule in
-      (ap (λ (a : Answer). a.step) answer, ap (λ (a : Answer). a.reply) answer)
+      let answer = configure-made terms site running moment texts rule in
+      (ap (λ (a : Answer). a.step) answer, ap (λ (a : Answer). a.reply) answer, ap (λ (a : Answer). a.running) answer)
 
   module _ (path : List ℕ) (file : FileRec) (found : file_at path site.fields.files ≡ Some file) where
     -- a removal of a file that is there
-    pub removal_planned : IsPlanOf site (answer_to terms site moment (RemoveEvent path)) (Make (prepared_as (Removed file.inode)) (Nothing (Done file.inode)))
+    pub removal_planned : IsPlanOf site running (answer_to terms site running moment (RemoveEvent path)) (Make (prepared_as (Removed file.inode)) (Nothing (Done file.inode)))
     removal_planned =
-        let answer = remove-found terms site moment path file found in
-        (ap (λ (a : Answer). a.step) answer, ap (λ (a : Answer). a.reply) answer)
+        let answer = remove-found terms site running moment path file found in
+        (ap (λ (a : Answer). a.step) answer, ap (λ (a : Answer). a.reply) answer, ap (λ (a : Answer). a.running) answer)
 
     -- a read of it
     module _ (count : ℕ) (kept : IsKept count site.fields) (bytes : HaveAllBytes site) (upto : ℕ) where
@@ -119,10 +121,11 @@ module _ (terms : Terms) (site : Site) (moment : ℕ) (setting : Option Setting)
           }
 
       pub read_planned : (runs : List Run) (buffer : Vec ℕ) → runs ≡ file.runs → length buffer.items ≡ min file.length upto
-          → IsPlanOf site (answer_to terms site moment (ReadEvent path upto)) (Make (prepared_as (Accessed file.inode)) (Load runs buffer))
+          → IsPlanOf site running (answer_to terms site running moment (ReadEvent path upto)) (Make (prepared_as (Accessed file.inode)) (Load runs buffer))
       read_planned runs buffer same count =
-          let answer = read-found terms site moment path upto file found in
+          let answer = read-found terms site running moment path upto file found in
           let long = read_length site file of.stands bytes upto in (
             ap (λ (a : Answer). a.step) answer,
             (take upto whole, ap (λ (a : Answer). a.reply) answer, omega (arith, long, count), read_lies runs same),
+            ap (λ (a : Answer). a.running) answer,
           )

@@ -1,5 +1,5 @@
 -- Which plan is of an answer.
-use Rattle.std.specs.Prelude.{◌≡◌, ◌≤◌, ◌*◌, ℕ, Some, None, List, [], length, take}
+use Rattle.std.specs.Prelude.{◌≡◌, ◌≤◌, ◌*◌, ℕ, Some, List, [], length, take}
 use Rattle.std.specs.List.{Contains}
 use Rattle.site_events.specs.declared.event.Event.{Event}
 use Rattle.site_types.specs.declared.file.FileRec.{FileRec}
@@ -12,7 +12,8 @@ use Rattle.site_history.specs.Site.{Site, bytes_of}
 use Rattle.site_history.specs.Steps.{HistoryStep}
 use Rattle.site_history.specs.Kept.{IsKept, HaveAllBytes}
 use Rattle.site_history.specs.Answers.{answer_to}
-use Rattle.site_history.specs.Replies.{Answer}
+use Rattle.site_history.specs.Running.{Running}
+use Rattle.site_history.specs.Replies.{Answer, tells}
 use Rattle.site_state.specs.declared.state.SiteState.{SiteState}
 use Rattle.site_state.specs.Keeps.{Keeps}
 use Rattle.decisions.specs.declared.plan.Plan.{Plan}
@@ -40,12 +41,14 @@ Gives site (Nothing named) reply = reply ≡ named
 Gives site (Store stored named) reply = reply ≡ named
 Gives site (Load runs buffer) reply = (bytes : List ℕ) × (reply ≡ Bytes bytes) × (length bytes ≡ length buffer.items) × LieAt site runs bytes
 
--- The plan is of the answer: it replies that, and makes its step.
-abbrev pub IsPlanOf : Site → Answer → Plan → Type 0
-IsPlanOf site answer (AnswerPlan reply) = answer ≡ record { reply = reply; step = None }
-IsPlanOf site answer (Make prepared work) = (answer.step ≡ Some (record { step = prepared.step; bytes = stored_bytes work })) × Gives site work answer.reply
+-- The plan is of the answer: it replies that, and makes its step. What runs goes on.
+abbrev pub IsPlanOf : Site → Running → Answer → Plan → Type 0
+IsPlanOf site running answer (AnswerPlan reply) = answer ≡ tells running reply
+IsPlanOf site running answer (Make prepared work) =
+    (answer.step ≡ Some (record { step = prepared.step; bytes = stored_bytes work })) × Gives site work answer.reply × (answer.running ≡ running)
 
--- It is of what is answered to an event at a moment, in each site that the state keeps the fields of, after so many steps.
+-- It is of what is answered to an event at a moment, in each site that the state keeps the fields of, after so many steps, and
+-- whatever runs.
 abbrev pub Answers : SiteState → ℕ → Event → Plan → Type 0
-Answers state moment event plan = (terms : Terms) (count : ℕ) (site : Site) → IsKept count site.fields → HaveAllBytes site → Keeps state site.fields
-    → IsPlanOf site (answer_to terms site moment event) plan
+Answers state moment event plan = (terms : Terms) (count : ℕ) (site : Site) (running : Running) → IsKept count site.fields → HaveAllBytes site → Keeps state site.fields
+    → IsPlanOf site running (answer_to terms site running moment event) plan

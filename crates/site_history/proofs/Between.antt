@@ -8,8 +8,8 @@ use Rattle.site_events.specs.declared.reply.Reply.{Reply}
 use Rattle.site_history.specs.Terms.{Terms}
 use Rattle.site_history.specs.Steps.{HistoryStep}
 use Rattle.site_history.specs.Histories.{Begins}
-use Rattle.site_history.specs.Worlds.{World, at_moment, with_step, whole_of, IsWithOrWithout}
-use Rattle.site_history.specs.Turns.{moment_of, answer_in, Course, Goes, Stays, Fails, Owes, course_of, failed_in, TurnBy, Turn, EventTurnBy, EventTurn}
+use Rattle.site_history.specs.Worlds.{World, at, at_moment, with_step, whole_of, IsWithOrWithout}
+use Rattle.site_history.specs.Turns.{moment_of, answer_in, Course, Goes, Stays, Fails, Owes, course_of, failed_in, TurnBy, Turn, EventTurnBy, EventTurn, IsReopened}
 use Rattle.site_history.specs.Images.{Reads, ReadsAs, ReadsBetween}
 
 -- Histories that go on from others.
@@ -61,6 +61,22 @@ module _ (terms : Terms) (w mid w' : World) (c : Image) (nothing : mid.owed ≡ 
   pub between_after : Begins w.history mid.history → Begins mid.history (whole_of w') → ReadsBetween terms mid w' c → ReadsBetween terms w w' c
   between_after begins goes_on (inl reads) = inr (mid.history, begins, goes_on, reads_history terms mid c nothing reads)
   between_after begins goes_on (inr (steps, from, to, reads)) = inr (steps, begins_then w.history mid.history steps begins from, to, reads)
+
+-- Where a reopening leads is in the middle too.
+led_begins : (w : World) (steps : List HistoryStep) → IsWithOrWithout w steps → Begins w.history steps
+led_begins w steps (inl is) = subst (λ (l : List HistoryStep). Begins w.history l) (sym is) (begins_same w.history)
+led_begins w steps (inr (owed, owes, is)) = (owed ∷ [], is)
+
+led_reads : (terms : Terms) (w : World) (c : Image) (steps : List HistoryStep) → IsWithOrWithout w steps → Reads terms c steps → ReadsAs terms w c
+led_reads terms w c steps (inl is) reads = inl (subst (λ (l : List HistoryStep). Reads terms c l) is reads)
+led_reads terms w c steps (inr (owed, owes, is)) reads = inr (owed, owes, subst (λ (l : List HistoryStep). Reads terms c l) is reads)
+
+pub between_reopened : (terms : Terms) (read : Content) (w w0 w' : World) (c : Image) → IsReopened terms true read w w0 → ReadsBetween terms w0 w' c → ReadsBetween terms w w' c
+between_reopened terms read w w0 w' c (steps, led, holds, is) (inl reads) =
+    inl (led_reads terms w c steps led (reads_history terms (at steps w.clock) c refl (subst (λ (x : World). ReadsAs terms x c) is reads)))
+between_reopened terms read w w0 w' c (steps, led, holds, is) (inr (then, from, to, reads)) =
+    let behind : Begins steps then = subst (λ (x : World). Begins x.history then) is from in
+    inr (then, begins_then w.history steps then (led_begins w steps led) behind, to, reads)
 
 -- One event.
 

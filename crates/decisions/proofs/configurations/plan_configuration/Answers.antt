@@ -11,11 +11,11 @@ use Rattle.decisions.proofs.Planned.{configuration_planned}
 use Rattle.decisions.proofs.configurations.plan_configuration.Goals as goal
 
 pub returns-in-Some-clause-answers : goal.returns-in-Some-clause-answers
-returns-in-Some-clause-answers c = λ terms count site kept bytes keeps. configure-refused terms site c.args.moment c.args.texts _ (c.in-Some.ensures.refused site.fields keeps)
+returns-in-Some-clause-answers c = λ terms count site running kept bytes keeps. configure-refused terms site running c.args.moment c.args.texts _ (c.in-Some.ensures.refused site.fields keeps)
 
 pub returns-in-Ok-clause-answers : goal.returns-in-Ok-clause-answers
-returns-in-Ok-clause-answers c = λ terms count site kept bytes keeps.
-    configuration_planned terms site c.args.moment (Some c.in-Ok.setting) c.args.texts
+returns-in-Ok-clause-answers c = λ terms count site running kept bytes keeps.
+    configuration_planned terms site running c.args.moment (Some c.in-Ok.setting) c.args.texts
     (c.in_default.ensures.left site.fields keeps ∙ ap (λ (o : Option FileRefusal). option_map conf_refused o) c.in-Ok.ensures.read)
 
 pub returns-in-Ok-clause-performable : goal.returns-in-Ok-clause-performable
@@ -30,8 +30,8 @@ returns-in-Ok-clause-performable c = (
 )
 
 pub returns-in-Err-Refused-clause-answers : goal.returns-in-Err-Refused-clause-answers
-returns-in-Err-Refused-clause-answers c = λ terms count site kept bytes keeps.
+returns-in-Err-Refused-clause-answers c = λ terms count site running kept bytes keeps.
     let wrong : refusal_of c.args.texts ≡ Some c.in-Err-Refused.refusal =
     subst (λ (e : ConfigurationError). TellsRefusal c.args.texts e) c.in-Err-Refused.field-0-is c.in-Err-Refused.ensures.refused in
-    configure-refused terms site c.args.moment c.args.texts (conf_refused c.in-Err-Refused.refusal)
+    configure-refused terms site running c.args.moment c.args.texts (conf_refused c.in-Err-Refused.refusal)
     (c.in_default.ensures.left site.fields keeps ∙ ap (λ (o : Option FileRefusal). option_map conf_refused o) wrong)

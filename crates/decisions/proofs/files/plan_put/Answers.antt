@@ -7,14 +7,14 @@ use Rattle.decisions.proofs.Planned.{same_rule, put_planned}
 use Rattle.decisions.proofs.files.plan_put.Goals as goal
 
 pub returns-in-Err-clause-answers : goal.returns-in-Err-clause-answers
-returns-in-Err-clause-answers c = λ terms count site kept bytes keeps.
-    put-refused terms site c.args.moment c.args.path c.args.owner c.args.group c.args.bytes c.in-Err.rule
+returns-in-Err-clause-answers c = λ terms count site running kept bytes keeps.
+    put-refused terms site running c.args.moment c.args.path c.args.owner c.args.group c.args.bytes c.in-Err.rule
     (same_rule site.fields _ _ _ c.args.path c.args.owner c.args.group _ _ c.as_slice.ensures c.as_slice-2.ensures c.as_slice-3.ensures c.len-size.ensures
     ∙ c.in-Err.ensures.refused site.fields keeps)
 
 pub returns-clause-answers : goal.returns-clause-answers
-returns-clause-answers c = λ terms count site kept bytes keeps.
-    put_planned terms site c.args.moment None c.args.path c.args.owner c.args.group c.args.bytes c.as_slice.result.now c.in-Ok.place.inode c.len-size.result c.in-Ok.place.created c.in_ok-runs.runs
+returns-clause-answers c = λ terms count site running kept bytes keeps.
+    put_planned terms site running c.args.moment None c.args.path c.args.owner c.args.group c.args.bytes c.as_slice.result.now c.in-Ok.place.inode c.len-size.result c.in-Ok.place.created c.in_ok-runs.runs
     (same_rule site.fields _ _ _ c.args.path c.args.owner c.args.group _ _ c.as_slice.ensures c.as_slice-2.ensures c.as_slice-3.ensures c.len-size.ensures
     ∙ c.in-Ok.ensures.admitted site.fields keeps)
     c.as_slice.ensures c.len-size.ensures (c.in-Ok.ensures.place site.fields keeps) (c.in_ok-runs.ensures.lowest site.fields keeps)

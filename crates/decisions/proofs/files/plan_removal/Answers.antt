@@ -6,13 +6,13 @@ use Rattle.decisions.proofs.Planned.{finds_none, finds_file, removal_planned}
 use Rattle.decisions.proofs.files.plan_removal.Goals as goal
 
 pub returns-in_default-clause-answers : goal.returns-in_default-clause-answers
-returns-in_default-clause-answers c = λ terms count site kept bytes keeps.
-    remove-missing terms site c.args.moment c.args.path
+returns-in_default-clause-answers c = λ terms count site running kept bytes keeps.
+    remove-missing terms site running c.args.moment c.args.path
     (finds_none c.args.path c.as_slice.result.now site.fields.files _ c.as_slice.ensures (c.file_at.ensures.file site.fields keeps) c.in_default.is)
 
 pub returns-clause-answers : goal.returns-clause-answers
-returns-clause-answers c = λ terms count site kept bytes keeps.
-    removal_planned terms site c.args.moment None c.args.path c.in-Some.file.now
+returns-clause-answers c = λ terms count site running kept bytes keeps.
+    removal_planned terms site running c.args.moment None c.args.path c.in-Some.file.now
     (finds_file c.args.path c.as_slice.result.now site.fields.files _ c.in-Some.file c.as_slice.ensures (c.file_at.ensures.file site.fields keeps) c.in-Some.is)
 
 pub returns-clause-performable : goal.returns-clause-performable
