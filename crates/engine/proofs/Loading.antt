@@ -15,7 +15,7 @@ use Rattle.site_history.specs.Site.{Site, bytes_of}
 use Rattle.site_history.specs.Images.{extents}
 use Rattle.site_history.specs.Extents.{extents_over, AllStand}
 use Rattle.site_history.specs.Pinned.{in_blocks_of}
-use Rattle.site_history.specs.Worlds.{IsReply}
+use Rattle.site_history.specs.Turns.{IsReply}
 use Rattle.site_history.proofs.FileReads.{listed_stands}
 use Rattle.site_history.proofs.Turns.{is_reply-bytes}
 use Rattle.decisions.specs.declared.plan.Work.TheVariants.{Load}

@@ -1,4 +1,4 @@
--- How an engine that stands for a history with nothing open goes on while an event is served.
+-- How an engine that stands for a world with nothing open goes on while an event is served.
 use Rattle.std.proofs.Common.{◌≡◌, ◌⊎◌, inl, ℕ, sym, ◌∙◌, ap, subst, Bool}
 use Rattle.std.specs.Prelude.{IsTrue}
 use Rattle.bank.specs.Content.{Image}
@@ -7,9 +7,8 @@ use Rattle.bank.proofs.Moments.{weakened, joined}
 use Rattle.journal.specs.State.{JournalState}
 use Rattle.site_history.specs.Terms.{Terms}
 use Rattle.site_history.specs.Site.{Fields}
-use Rattle.site_history.specs.Histories.{after}
-use Rattle.site_history.specs.Worlds.{World}
-use Rattle.site_history.specs.Images.{ReadsAs}
+use Rattle.site_history.specs.Worlds.{World, site_of}
+use Rattle.site_history.specs.Images.{ReadsAs, ReadsBetween}
 use Rattle.site_history.proofs.Reopenings.{images_after_reading, moments_of_reading}
 use Rattle.engine.specs.declared.kept.Engine.{Engine}
 use Rattle.site_state.specs.Keeps.{Keeps}
@@ -20,7 +19,9 @@ pub stands_still : (terms : Terms) → {B P : Type 0} (told : Bool) (view : B �
     → ((fields : Fields) → Keeps old.site fields → Keeps new.site fields) → new.journal ≡ old.journal → new.steps ≡ old.steps → new.clock ≡ old.clock → new.due ≡ old.due
     → (IsTrue told → (c : Image) → IsImage (view new.bank) c → ReadsAs terms w c) → StandsFor terms told view new w
 stands_still terms told view old new w s keeps journal steps clock due images = record {
-  history = s.history;
+  kept = s.kept;
+  first = s.first;
+  idle = s.idle;
   steps = steps ∙ s.steps;
   clock = clock ∙ s.clock;
   in_time = s.in_time;
@@ -30,7 +31,7 @@ stands_still terms told view old new w s keeps journal steps clock due images = 
   in_step = λ not_due. let was = s.in_step (sym due ∙ not_due) in (
     was.0,
     record {
-      keeps = keeps (after terms w.history).fields was.1.keeps;
+      keeps = keeps (site_of terms w).fields was.1.keeps;
       count = ap (λ (j : JournalState). j.count) journal ∙ was.1.count;
       place = ap (λ (j : JournalState). j.place) journal ∙ was.1.place;
     },
@@ -52,7 +53,7 @@ module _ (terms : Terms) {B P : Type 0} (told : Bool) (view : B → View) (old n
   stays_here = record {
     stands = stands_read;
     moments = λ t. weakened (view old.bank) (view new.bank) (ReadsAs terms w)
-        (λ c. ReadsAs terms w c ⊎ ReadsAs terms w c) (moments_of_reading terms (view old.bank) (view new.bank) w (only t) (s.images t)) (λ c reads. inl reads);
+        (ReadsBetween terms w w) (moments_of_reading terms (view old.bank) (view new.bank) w (only t) (s.images t)) (λ c reads. inl reads);
   }
 
 -- While nothing is written each image reads as the world.
@@ -65,7 +66,7 @@ pub moves_behind : (terms : Terms) → {B P : Type 0} (told : Bool) (view : B �
     → (IsTrue told → LeavesOnly (view old.bank) (view mid.bank) (ReadsAs terms w)) → Moves terms told view mid new w w' → Moves terms told view old new w w'
 moves_behind terms told view old mid new w w' before moves = record {
   stands = moves.stands;
-  moments = λ t. joined (view old.bank) (view mid.bank) (view new.bank) (λ c. ReadsAs terms w c ⊎ ReadsAs terms w' c)
-      (weakened (view old.bank) (view mid.bank) (ReadsAs terms w) (λ c. ReadsAs terms w c ⊎ ReadsAs terms w' c) (before t) (λ c reads. inl reads))
+  moments = λ t. joined (view old.bank) (view mid.bank) (view new.bank) (ReadsBetween terms w w')
+      (weakened (view old.bank) (view mid.bank) (ReadsAs terms w) (ReadsBetween terms w w') (before t) (λ c reads. inl reads))
       (moves.moments t);
 }

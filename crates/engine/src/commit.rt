@@ -1,13 +1,13 @@
 //! A step's record.
 
-ghost use Rattle.std.specs.Prelude.{◌≡◌, ◌+◌, ◌++◌, ◌∷◌, [], ◌≤◌, true, false, Bool, List as Seq, IsTrue, length, OnOk, OnErr};
+ghost use Rattle.std.specs.Prelude.{◌≡◌, ◌+◌, ◌≤◌, true, false, Bool, Some, IsTrue, length, OnOk, OnErr};
 ghost use Rattle.site_history.specs.Terms.{Terms};
 ghost use Rattle.base.specs.Causes.{Rose};
 ghost use Rattle.step_codec.specs.Written.{InRange};
 ghost use Rattle.journal.specs.Records.{IsPayload};
 ghost use Rattle.site_history.specs.Steps.{HistoryStep};
-ghost use Rattle.site_history.specs.Worlds.{at};
-ghost use Rattle.engine.specs.Ready.{IsReady, owing};
+ghost use Rattle.site_history.specs.Worlds.{World, made_in, owing_in};
+ghost use Rattle.engine.specs.Ready.{IsReady};
 ghost use Rattle.site_state.specs.Room.{IsPrepared};
 ghost use Rattle.engine.specs.StandsFor.{Moves};
 
@@ -25,12 +25,12 @@ impl<B: Bank, P: Drop> Engine<B, P> {
         requires fits { self.old.journal.place + 6 + length self.old.payload.items ≤ self.old.journal.size }
         requires range { InRange prepared.step }
         requires prepared { IsPrepared self.old.site prepared }
-        // At `Ok` the step is acknowledged: the engine stands for the history with it.
-        ensures made { (terms : Terms) (told : Bool) → (IsTrue told → IsTrue B.tells) → (history : Seq HistoryStep) → (made : HistoryStep) → made.step ≡ prepared.step → IsReady terms told B.view self.old history made
-            → OnOk result (Moves terms told B.view self.old self.new (at history self.old.clock) (at (history ++ made ∷ []) self.old.clock)) }
+        // At `Ok` the step is acknowledged: the engine stands for the world with it.
+        ensures made { (terms : Terms) (told : Bool) → (IsTrue told → IsTrue B.tells) → (w : World) → (made : HistoryStep) → made.step ≡ prepared.step → IsReady terms told B.view self.old w made
+            → OnOk result (Moves terms told B.view self.old self.new w (made_in (Some made) w)) }
         // At an error the step is owed.
-        ensures owed { (terms : Terms) (told : Bool) → (IsTrue told → IsTrue B.tells) → (history : Seq HistoryStep) → (made : HistoryStep) → made.step ≡ prepared.step → IsReady terms told B.view self.old history made
-            → OnErr result (Moves terms told B.view self.old self.new (at history self.old.clock) (owing history self.old.clock made)) }
+        ensures owed { (terms : Terms) (told : Bool) → (IsTrue told → IsTrue B.tells) → (w : World) → (made : HistoryStep) → made.step ≡ prepared.step → IsReady terms told B.view self.old w made
+            → OnErr result (Moves terms told B.view self.old self.new w (owing_in (Some made) w)) }
         ensures fault { OnErr result (Rose (B.faults self.old.bank) (B.faults self.new.bank)) }
         ensures journal_fault { OnErr result (Rose (B.journal_faults self.old.bank) (B.journal_faults self.new.bank)) }
         ensures area { OnErr result (B.last_fault self.new.bank ≡ 0) }

@@ -1,6 +1,6 @@
 //! Events over a store.
 
-ghost use Rattle.std.specs.Prelude.{◌≡◌, ◌≢◌, ◌≤◌, ◌<◌, ◌^◌, ℕ, [], false, true, length, IfOk, IfErr, MatchResult, IsTrue, OnOk, OnErr, Bool, List};
+ghost use Rattle.std.specs.Prelude.{◌≡◌, ◌≢◌, ◌≤◌, ◌<◌, ◌^◌, false, true, IfOk, IfErr, MatchResult, IsTrue, OnOk, OnErr, Bool, List};
 ghost use Rattle.site_history.specs.Terms.{Terms};
 ghost use Rattle.base.specs.Causes.{Rose};
 ghost use Rattle.bank.specs.Content.{Content};
@@ -9,8 +9,8 @@ ghost use Rattle.site_events.specs.declared.event.Event.TheVariants.{Configure a
 ghost use Rattle.site_types.specs.declared.file.SiteTexts.{SiteTexts as Texts};
 ghost use Rattle.configuration.specs.ConfigurationRules.{Says};
 ghost use Rattle.site_history.specs.Steps.{HistoryStep};
-ghost use Rattle.site_history.specs.Histories.{after};
-ghost use Rattle.site_history.specs.Worlds.{World, Turn, EventTurn, at, moment_of, new_world, IsFound, RefusesReopening, TellsConfiguration};
+ghost use Rattle.site_history.specs.Worlds.{World, site_of, steps_of, new_world};
+ghost use Rattle.site_history.specs.Turns.{Turn, EventTurn, moment_of, IsFound, RefusesReopening, TellsConfiguration};
 ghost use Rattle.site_history.specs.Images.{IsSettled};
 ghost use Rattle.site_history.specs.Journals.{HoldsHistory};
 ghost use Rattle.engine.specs.StandsFor.{StandsFor, Moves, IsRecovered, StaysFor};
@@ -61,9 +61,9 @@ impl<B: Bank, P: Drop> Engine<B, P> {
         journal_bytes: u64,
     ) -> Result<Engine<B, P>, Shut<B, P>>
         requires { journal_bytes ≤ 268435456 }
-        // It stands for the history for which the store is settled; for that of the journal where the store tells nothing.
+        // It stands for the world of the history for which the store is settled; where the store tells nothing for some world.
         ensures stands { (terms : Terms) → journal_bytes ≡ terms.size → (told : Bool) → (IsTrue told → IsTrue B.tells) → (before : List HistoryStep) → (IsTrue told → IsSettled terms (B.view bank) before)
-            → IfOk result (λ engine. (found : List HistoryStep) × IsFound terms told before found × StandsFor terms told B.view engine (new_world terms found)) }
+            → IfOk result (λ engine. (found : World) × IsFound terms told before found × StandsFor terms told B.view engine found) }
         // Whatever the store is settled for, it stands for the history that the journal holds.
         ensures held { (terms : Terms) → journal_bytes ≡ terms.size → IfOk result (λ engine. (found : List HistoryStep) × StandsFor terms false B.view engine (new_world terms found) × (IsTrue B.tells → HoldsHistory terms ((B.view bank).content 0) found)) }
         ensures ready { IfOk result (λ engine. engine.due ≡ false) }
@@ -163,8 +163,8 @@ impl<B: Bank, P: Drop> Engine<B, P> {
     // One event, where no reopening is due.
     fn serve(&mut self, event: Event, now: u64) -> Reply
         requires { self.old.due ≡ false }
-        ensures turn { (terms : Terms) (told : Bool) → (IsTrue told → IsTrue B.tells) → (history : List HistoryStep) (clock : ℕ) → StandsFor terms told B.view self.old (at history clock)
-            → (w : World) × Turn terms told history event (moment_of clock now) (B.last_fault self.new.bank) result w × Moves terms told B.view self.old self.new (at history clock) w }
+        ensures turn { (terms : Terms) (told : Bool) → (IsTrue told → IsTrue B.tells) → (w : World) → StandsFor terms told B.view self.old w
+            → (w' : World) × Turn terms told w event (moment_of w.clock now) (B.last_fault self.new.bank) result w' × Moves terms told B.view self.old self.new w w' }
         ensures served { IsServed B.tells B.view B.faults B.journal_faults B.last_fault self.old self.new result }
     {
         self.clock = self.clock.max(now.min(LAST_MOMENT));
@@ -176,14 +176,14 @@ impl<B: Bank, P: Drop> Engine<B, P> {
 
     /// How many steps were acknowledged.
     pub fn steps(&self) -> u64
-        ensures { (terms : Terms) (told : Bool) (w : World) → StandsFor terms told B.view self.now w → result ≡ length w.history }
+        ensures { (terms : Terms) (told : Bool) (w : World) → StandsFor terms told B.view self.now w → result ≡ steps_of w }
     {
         self.steps
     }
 
     /// What the command files of the site say. Where a reopening is due they may be others than those of the history.
     pub fn configuration(&self) -> &Configuration
-        ensures said { (terms : Terms) (told : Bool) (w : World) → StandsFor terms told B.view self.now w → self.now.due ≡ false → Says (after terms w.history).fields.texts result.now }
+        ensures said { (terms : Terms) (told : Bool) (w : World) → StandsFor terms told B.view self.now w → self.now.due ≡ false → Says (site_of terms w).fields.texts result.now }
         ensures kept { result.now ≡ self.now.site.configuration }
     {
         self.site.configuration()

@@ -1,12 +1,11 @@
 //! Plans, performed.
 
-ghost use Rattle.std.specs.Prelude.{◌≡◌, false, Bool, List as Seq, IsTrue};
+ghost use Rattle.std.specs.Prelude.{◌≡◌, false, Bool, IsTrue};
 ghost use Rattle.site_history.specs.Terms.{Terms};
 ghost use Rattle.site_events.specs.declared.event.Event.{Event as Happens};
-ghost use Rattle.site_history.specs.Steps.{HistoryStep};
-ghost use Rattle.site_history.specs.Histories.{after};
 ghost use Rattle.site_history.specs.Answers.{answer_to};
-ghost use Rattle.site_history.specs.Worlds.{World, at, Turn};
+ghost use Rattle.site_history.specs.Worlds.{World, site_of, at_moment};
+ghost use Rattle.site_history.specs.Turns.{Turn};
 ghost use Rattle.decisions.specs.Plans.{IsPlanOf};
 ghost use Rattle.decisions.specs.Needs.{IsPerformable, IsRecordable, NamesNoFault};
 ghost use Rattle.engine.specs.StandsFor.{StandsFor, Moves};
@@ -26,9 +25,9 @@ impl<B: Bank, P: Drop> Engine<B, P> {
         requires ready { self.old.due ≡ false }
         requires performable { IsPerformable self.old.site plan }
         // It is the turn of each event of whose answer the plan is.
-        ensures turn { (terms : Terms) (told : Bool) → (IsTrue told → IsTrue B.tells) → (history : Seq HistoryStep) → StandsFor terms told B.view self.old (at history self.old.clock)
-            → (event : Happens) → IsPlanOf (after terms history) (answer_to terms (after terms history) self.old.clock event) plan
-            → (w : World) × Turn terms told history event self.old.clock (B.last_fault self.new.bank) result w × Moves terms told B.view self.old self.new (at history self.old.clock) w }
+        ensures turn { (terms : Terms) (told : Bool) → (IsTrue told → IsTrue B.tells) → (w : World) → StandsFor terms told B.view self.old (at_moment self.old.clock w)
+            → (event : Happens) → IsPlanOf (site_of terms w) w.running (answer_to terms (site_of terms w) w.running self.old.clock event) plan
+            → (w' : World) × Turn terms told w event self.old.clock (B.last_fault self.new.bank) result w' × Moves terms told B.view self.old self.new (at_moment self.old.clock w) w' }
         ensures served { IsServed B.tells B.view B.faults B.journal_faults B.last_fault self.old self.new result }
     {
         match plan {
@@ -42,9 +41,9 @@ impl<B: Bank, P: Drop> Engine<B, P> {
         requires ready { self.old.due ≡ false }
         requires recordable { IsRecordable self.old.site prepared }
         requires named { NamesNoFault work }
-        ensures turn { (terms : Terms) (told : Bool) → (IsTrue told → IsTrue B.tells) → (history : Seq HistoryStep) → StandsFor terms told B.view self.old (at history self.old.clock)
-            → (event : Happens) → IsPlanOf (after terms history) (answer_to terms (after terms history) self.old.clock event) (Plan.Make prepared work)
-            → (w : World) × Turn terms told history event self.old.clock (B.last_fault self.new.bank) result w × Moves terms told B.view self.old self.new (at history self.old.clock) w }
+        ensures turn { (terms : Terms) (told : Bool) → (IsTrue told → IsTrue B.tells) → (w : World) → StandsFor terms told B.view self.old (at_moment self.old.clock w)
+            → (event : Happens) → IsPlanOf (site_of terms w) w.running (answer_to terms (site_of terms w) w.running self.old.clock event) (Plan.Make prepared work)
+            → (w' : World) × Turn terms told w event self.old.clock (B.last_fault self.new.bank) result w' × Moves terms told B.view self.old self.new (at_moment self.old.clock w) w' }
         ensures served { IsServed B.tells B.view B.faults B.journal_faults B.last_fault self.old self.new result }
     {
         let Ok(()) = write_payload(&prepared.step, &mut self.payload) else {

@@ -8,7 +8,7 @@ ghost use Rattle.site_history.specs.Site.{Site};
 ghost use Rattle.site_history.specs.Images.{extents};
 ghost use Rattle.site_history.specs.Extents.{extents_over, AllStand};
 ghost use Rattle.site_history.specs.Pinned.{StandInAll, in_blocks_of};
-ghost use Rattle.site_history.specs.Worlds.{IsReply};
+ghost use Rattle.site_history.specs.Turns.{IsReply};
 ghost use Rattle.site_state.specs.Fields.{put_runs};
 ghost use Rattle.decisions.specs.Plans.{Gives, stored_bytes};
 ghost use Rattle.decisions.specs.Needs.{NamesNoFault, TellsNoFault};

@@ -1,8 +1,7 @@
 use Rattle.std.proofs.Common.{arith, refl, subst}
 use Rattle.bank.proofs.Readings.{nothing_read}
 use Rattle.site_history.specs.Answers.{answer_to}
-use Rattle.site_history.specs.Histories.{after}
-use Rattle.site_history.specs.Worlds.{at}
+use Rattle.site_history.specs.Worlds.{site_of, at_moment}
 use Rattle.site_history.proofs.Turns.{answer-turn}
 use Rattle.decisions.specs.declared.plan.Plan.{Plan}
 use Rattle.decisions.specs.Plans.{IsPlanOf}
@@ -12,12 +11,12 @@ use Rattle.engine.proofs.Turning.{stays_here}
 use Rattle.engine.proofs.kept.Engine.perform.Goals as goal
 
 pub returns-in-Answer-clause-turn : goal.returns-in-Answer-clause-turn
-returns-in-Answer-clause-turn g c = λ terms told tells history stands event of. (
-  at history c.args.self.now.clock,
-  answer-turn terms told history event c.args.self.now.clock _ c.in-Answer.reply
-      (subst (λ (p : Plan). IsPlanOf (after terms history) (answer_to terms (after terms history) c.args.self.now.clock event) p) c.in-Answer.is of)
+returns-in-Answer-clause-turn g c = λ terms told tells w stands event of. (
+  at_moment c.args.self.now.clock w,
+  answer-turn terms told w event c.args.self.now.clock _ c.in-Answer.reply
+      (subst (λ (p : Plan). IsPlanOf (site_of terms w) w.running (answer_to terms (site_of terms w) w.running c.args.self.now.clock event) p) c.in-Answer.is of)
       (course_goes c.in-Answer.reply _ (subst (λ (p : Plan). IsPerformable c.args.self.now.site p) c.in-Answer.is c.requires.performable)),
-  stays_here terms told g.B.Bank.view c.args.self.now _ (at history c.args.self.now.clock) stands (λ fields keeps. keeps) refl refl refl refl (λ t. nothing_read _ (g.met.B.Bank.sound _ (tells t))),
+  stays_here terms told g.B.Bank.view c.args.self.now _ (at_moment c.args.self.now.clock w) stands (λ fields keeps. keeps) refl refl refl refl (λ t. nothing_read _ (g.met.B.Bank.sound _ (tells t))),
 )
 
 pub returns-in-Answer-clause-served : goal.returns-in-Answer-clause-served
@@ -37,9 +36,9 @@ returns-in-Answer-clause-served g c =
     }
 
 pub returns-in-Make-clause-turn : goal.returns-in-Make-clause-turn
-returns-in-Make-clause-turn g c = λ terms told tells history stands event of.
-    c.make.ensures.turn terms told tells history stands event
-    (subst (λ (p : Plan). IsPlanOf (after terms history) (answer_to terms (after terms history) c.args.self.now.clock event) p) c.in-Make.is of)
+returns-in-Make-clause-turn g c = λ terms told tells w stands event of.
+    c.make.ensures.turn terms told tells w stands event
+    (subst (λ (p : Plan). IsPlanOf (site_of terms w) w.running (answer_to terms (site_of terms w) w.running c.args.self.now.clock event) p) c.in-Make.is of)
 
 pub make-requires-clause-recordable : goal.make-requires-clause-recordable
 make-requires-clause-recordable g c = (subst (λ (p : Plan). IsPerformable c.args.self.now.site p) c.in-Make.is c.requires.performable).0
