@@ -14,7 +14,7 @@ use Rattle.site_types.specs.declared.step.StepKind.TheVariants.{Put}
 use Rattle.step_codec.specs.Written.{written}
 use Rattle.cache_space.specs.Space.{AreApart}
 use Rattle.site_history.specs.Terms.{Terms}
-use Rattle.site_history.specs.Site.{Fields, held_runs}
+use Rattle.site_history.specs.Site.{Fields, held_runs, Site}
 use Rattle.site_history.specs.Steps.{HistoryStep, IsLegal, step_extents}
 use Rattle.site_history.specs.Histories.{after, journal_length}
 use Rattle.site_history.specs.Worlds.{World, at}

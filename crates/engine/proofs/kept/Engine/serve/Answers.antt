@@ -1,4 +1,4 @@
-use Rattle.std.proofs.Common.{◌≡◌, arith, ℕ, refl, ap, subst}
+use Rattle.std.proofs.Common.{◌≡◌, arith, ℕ, refl, ap, subst, length}
 use Rattle.site_history.specs.Worlds.{at, moment_of, Turn}
 use Rattle.site_history.specs.Histories.{after}
 use Rattle.site_history.proofs.KeptLaws.{after_kept, after_bytes}
