@@ -19,7 +19,7 @@ use Rattle.configuration.proofs.Laws.{within-all, all-within}
 use Rattle.configuration.proofs.Computed.{computed-blocks}
 use Rattle.cache_space.specs.Space.{taken_by}
 use Rattle.site_history.specs.Terms.{Terms}
-use Rattle.site_history.specs.Site.{Fields, Site, held_runs, cache_blocks}
+use Rattle.site_history.specs.Site.{Fields, held_runs, cache_blocks}
 use Rattle.site_history.specs.Steps.{IsLegal, HasBytes}
 use Rattle.site_history.specs.ConfiguredSteps.{IsLegalConfiguration, configured_effect}
 use Rattle.site_history.specs.Replies.{bare_step}

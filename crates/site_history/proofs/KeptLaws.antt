@@ -1,11 +1,11 @@
 -- What holds of the fields after any history: `after_kept`, and of the bytes of files: `after_bytes`. `found-file` says it of the
 -- file that a path finds, `there-file` of the file of an inode that is there, and `placed-file` and `indexed-file` of the file at
 -- a place of the list, as code has it.
-use Rattle.std.proofs.Common.{◌≡◌, ℕ, ◌+◌, ◌<◌, ◌≤◌, ◌^◌, ◌/◌, List, [], ◌∷◌, ◌++◌, length, get_or, set, map, refl, sym, ◌∙◌, ap, subst, arith, Option, Some, None, length-append}
+use Rattle.std.proofs.Common.{◌≡◌, ℕ, ◌+◌, ◌<◌, ◌≤◌, ◌^◌, ◌/◌, List, [], ◌∷◌, ◌++◌, length, get_or, set, refl, sym, ◌∙◌, ap, subst, arith, Option, Some, None, length-append}
 use Rattle.std.specs.Prelude.{MatchOption, ◌==◌, find, IsTrue}
 use Rattle.std.specs.Option.{option_map_or}
 use Rattle.std.specs.Str.{bytes_eq}
-use Rattle.std.specs.List.{AllByRecursion, remove}
+use Rattle.std.specs.List.{remove}
 use Rattle.std.proofs.lemmas.List.{length-set, length-map}
 use Rattle.std.proofs.lemmas.Bool.{eqb-true}
 use Rattle.std.proofs.lemmas.Slice.Eq.{bytes_eq-Decides}
@@ -19,7 +19,6 @@ use Rattle.site_types.specs.declared.step.StepKind.TheVariants.{Configured, Put,
 use Rattle.site_types.specs.Ranges.{IsInode}
 use Rattle.site_types.specs.Texts.{no_texts}
 use Rattle.step_codec.proofs.InRange.{ranges}
-use Rattle.configuration.specs.ConfigurationSteps.{blocks_of}
 use Rattle.configuration.specs.ConfigurationTold.{configuration_of}
 use Rattle.configuration.proofs.Laws.{blocks-range, no_texts-read}
 use Rattle.configuration.proofs.Computed.{computed-says, computed-blocks}
@@ -27,7 +26,7 @@ use Rattle.cache_space.specs.Space.{AreThere, AreDisjoint}
 use Rattle.cache_space.proofs.HeldBlocks.{AreThere-nil}
 use Rattle.cache_space.proofs.LowestRuns.{AreMaximal-disjoint}
 use Rattle.site_history.specs.Terms.{Terms}
-use Rattle.site_history.specs.Site.{Fields, FileBytes, Site, first_fields, first_site, file_at, held_runs, cache_blocks, fresh_volumes, bytes_of}
+use Rattle.site_history.specs.Site.{Fields, Site, first_fields, file_at, held_runs, cache_blocks, bytes_of}
 use Rattle.site_history.specs.Changes.{with_file, without_file, without_inode, IsThere}
 use Rattle.site_history.specs.PutSteps.{stored_file, put_effect, IsLegalPut}
 use Rattle.site_history.specs.AccessedSteps.{accessed_by, accessed_effect}
@@ -35,7 +34,7 @@ use Rattle.site_history.specs.RemovedSteps.{removed_effect}
 use Rattle.site_history.specs.ConfiguredSteps.{configured_effect, IsLegalConfiguration}
 use Rattle.site_history.specs.Steps.{HistoryStep, dated, fields_after, effect, IsLegal, HasBytes}
 use Rattle.site_history.specs.Histories.{after, IsHistory}
-use Rattle.site_history.specs.Kept.{AreBelow, AreRisingFrom, IsFileKept, IsKept, HaveAllBytes}
+use Rattle.site_history.specs.Kept.{AreBelow, IsFileKept, IsKept, HaveAllBytes}
 use Rattle.site_history.proofs.HistoryLaws.{history-counts}
 use Rattle.site_history.proofs.FileLaws.{are_below-more, with_file-new, with_file-set, without_file-remove, rising_at, below_at, rising-push, rising-set, rising-accessed, rising-without, all-push, all-below, all-set, all-accessed, all-without, all_at, length-without}
 use Rattle.site_history.proofs.DistinctInodes.{AreDistinct, rising_distinct}

@@ -11,7 +11,7 @@ use Rattle.site_types.specs.Ranges.{IsInode}
 use Rattle.cache_space.specs.Blocks.{blocks_for, free_blocks, lowest_runs}
 use Rattle.cache_space.proofs.LowestRuns.{lowest_runs-maximal, lowest_runs-free, blocks_in-lowest_runs, lowest_runs-there}
 use Rattle.site_history.specs.Terms.{Terms}
-use Rattle.site_history.specs.Site.{Fields, Site, file_at, held_runs, cache_blocks}
+use Rattle.site_history.specs.Site.{Fields, file_at, held_runs, cache_blocks}
 use Rattle.site_history.specs.Steps.{IsLegal, HasBytes}
 use Rattle.site_history.specs.PutSteps.{IsLegalPut, inode_for}
 use Rattle.site_history.specs.FileAnswers.{put_rule, put_for, put_made, put_step, is_full, lacks_space}

@@ -9,7 +9,7 @@ use Rattle.std.proofs.lemmas.Bool.{le-leb, lt-leb, eq-eqb, ne_eqb}
 use Rattle.site_events.specs.declared.event.Event.{Event}
 use Rattle.site_events.specs.declared.event.Event.TheVariants.{Put as PutEvent, Read as ReadEvent, Remove as RemoveEvent, Configure as ConfigureEvent}
 use Rattle.site_events.specs.declared.reply.Reply.{Reply}
-use Rattle.site_events.specs.declared.reply.Reply.TheVariants.{Stored, Done, Bytes, Refused, Line, NoMemory, JournalFull, BankFault}
+use Rattle.site_events.specs.declared.reply.Reply.TheVariants.{Stored, Done, Bytes, Line, NoMemory, JournalFull, BankFault}
 use Rattle.site_events.specs.declared.reply.Rule.{Rule}
 use Rattle.site_events.specs.declared.reply.Rule.TheVariants.{NoFile}
 use Rattle.site_events.specs.declared.reply.LineRefusal.TheVariants.{NotACommand}

@@ -1,5 +1,5 @@
 -- Bytes at places of the store.
-use Rattle.std.specs.Prelude.{ℕ, ◌+◌, ◌*◌, List, [], ◌∷◌, take, drop}
+use Rattle.std.specs.Prelude.{ℕ, ◌*◌, List, [], ◌∷◌, take, drop}
 use Rattle.bank.specs.Content.{Image, Stands}
 use Rattle.site_types.specs.declared.file.Run.{Run}
 

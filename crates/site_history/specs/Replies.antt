@@ -1,5 +1,5 @@
 -- What an event is answered with where nothing fails.
-use Rattle.std.specs.Prelude.{ℕ, List, [], Option, None}
+use Rattle.std.specs.Prelude.{ℕ, [], Option, None}
 use Rattle.site_events.specs.declared.reply.Reply.{Reply}
 use Rattle.site_events.specs.declared.reply.Reply.TheVariants.{Refused}
 use Rattle.site_events.specs.declared.reply.Rule.{Rule}

@@ -1,5 +1,5 @@
 -- A site: what it keeps of its files, volumes and queue, and the bytes of its files.
-use Rattle.std.specs.Prelude.{ℕ, ◌/◌, ◌==◌, Bool, false, Option, None, if◌then◌else◌, List, [], ◌∷◌, map, find, flat_map}
+use Rattle.std.specs.Prelude.{ℕ, ◌/◌, ◌==◌, Bool, false, Option, None, List, [], map, find, flat_map}
 use Rattle.std.specs.List.{enumerate_from}
 use Rattle.std.specs.Option.{option_map_or}
 use Rattle.std.specs.Str.{bytes_eq}
