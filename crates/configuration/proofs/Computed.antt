@@ -1,5 +1,5 @@
 -- The configuration that texts say is the one that is computed of them.
-use Rattle.std.proofs.Common.{◌≡◌, ℕ, ◌/◌, List, Option, None, Result, Ok, Err, refl, sym, ap, subst, ◌∙◌}
+use Rattle.std.proofs.Common.{◌≡◌, ℕ, ◌/◌, List, None, Result, Ok, Err, refl, sym, ap, subst, ◌∙◌}
 use Rattle.site_text.specs.declared.fault.ConfRefusal.{ConfRefusal}
 use Rattle.daemon_cmds.specs.declared.site_conf.SiteReading.{SiteReading}
 use Rattle.daemon_cmds.specs.declared.site_conf.SiteConf.{SiteConf}
@@ -15,7 +15,7 @@ use Rattle.daemon_cmds.specs.RecyclerTold.{TellsRecycler}
 use Rattle.site_types.specs.declared.file.SiteTexts.{SiteTexts}
 use Rattle.configuration.specs.declared.read.Configuration.{Configuration}
 use Rattle.configuration.specs.ConfigurationRules.{site_told, Readings, SayReadings, TellReadings, Says}
-use Rattle.configuration.specs.ConfigurationSteps.{site_reading, archiver_reading, stager_reading, releaser_reading, recycler_reading, refusal_of, cache_by, blocks_of}
+use Rattle.configuration.specs.ConfigurationSteps.{site_reading, refusal_of, cache_by, blocks_of}
 use Rattle.configuration.specs.ConfigurationTold.{stager_told, releaser_told, recycler_told, configuration_told, read_or_none, readings_of, configuration_of}
 use Rattle.configuration.proofs.EachFile.{site_means, archiver_means, stager_means, releaser_means, recycler_means}
 use Rattle.configuration.proofs.Laws.{read-says}

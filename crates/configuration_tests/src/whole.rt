@@ -5,9 +5,9 @@ use configuration::{
     Configuration, ConfigurationError, FileRefusal, are_within, read_configuration, read_texts,
 };
 use outside::{FolderFault, MemoryFolder, NamedText};
-use site_types::SiteTexts;
 use site_events::CommandFile;
 use site_text::ConfFault;
+use site_types::SiteTexts;
 use std::alloc::{AllocError, Global};
 use std::test::Fail;
 

@@ -9,7 +9,6 @@ use Rattle.site_events.specs.declared.reply.Reply.TheVariants.{Bytes}
 use Rattle.cache_space.specs.Space.{blocks_in}
 use Rattle.site_history.specs.Terms.{Terms}
 use Rattle.site_history.specs.Site.{Site, bytes_of}
-use Rattle.site_history.specs.Steps.{HistoryStep}
 use Rattle.site_history.specs.Kept.{IsKept, HaveAllBytes}
 use Rattle.site_history.specs.Answers.{answer_to}
 use Rattle.site_history.specs.Running.{Running}

@@ -7,9 +7,9 @@ ghost use Rattle.decisions.specs.Needs.{IsPerformable};
 
 use crate::plan::{Plan, Work};
 use configuration::ConfigurationError;
-use site_types::{SiteTexts, Step, StepKind};
 use site_events::Reply;
 use site_state::{Prepared, Setting, SiteState};
+use site_types::{SiteTexts, Step, StepKind};
 use std::alloc::{AllocError, Global};
 
 /// Plans how the site is configured by these texts. At an error memory was wanting.

@@ -9,9 +9,9 @@ ghost use Rattle.decisions.specs.Needs.{IsPerformable};
 
 use crate::plan::{Plan, Work};
 use base::{Bytes, List};
-use site_types::{PutStep, Step, StepKind};
 use site_events::{Reply, Rule};
 use site_state::{Prepared, SiteState};
+use site_types::{PutStep, Step, StepKind};
 use std::alloc::{AllocError, Global};
 
 /// Plans how a file of these bytes is stored. At an error memory was wanting, and the site keeps what it kept.

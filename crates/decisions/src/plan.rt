@@ -1,9 +1,9 @@
 //! Plans.
 
 use base::{Bytes, List};
-use site_types::Run;
 use site_events::Reply;
 use site_state::Prepared;
+use site_types::Run;
 
 /// What is done to answer an event.
 #[derive(Drop)]

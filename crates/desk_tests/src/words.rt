@@ -2,7 +2,10 @@
 
 use base::{Bytes, List};
 use desk::{is_skipped, read_line, write_reply};
-use site_events::{Asked, CommandFile, Daemon, Event, FileRow, FileState, IdleCause, LineRefusal, Reply, Rule, SetRow, SummaryRow, VolumeRow, Vsn};
+use site_events::{
+    Asked, CommandFile, Daemon, Event, FileRow, FileState, IdleCause, LineRefusal, Reply, Rule,
+    SetRow, SummaryRow, VolumeRow, Vsn,
+};
 use site_text::ConfFault;
 use std::alloc::{AllocError, Global};
 

@@ -6,7 +6,6 @@ use Rattle.bank.specs.Content.{Image}
 use Rattle.bank.specs.View.{View, IsImage, IsSound, LeavesOnly}
 use Rattle.bank.specs.Inside.{WroteInside}
 use Rattle.bank.proofs.Moments.{weakened}
-use Rattle.journal.specs.State.{JournalState}
 use Rattle.site_events.specs.declared.event.Event.{Event}
 use Rattle.site_events.specs.declared.reply.Reply.{Reply}
 use Rattle.site_types.specs.declared.step.StepKind.{StepKind}

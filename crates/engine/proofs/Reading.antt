@@ -13,7 +13,6 @@ use Rattle.journal.proofs.RecordLaws.{end-push, records-push}
 use Rattle.site_types.specs.declared.step.Step.{Step}
 use Rattle.site_types.specs.declared.step.StepKind.{StepKind}
 use Rattle.site_types.specs.declared.step.StepKind.TheVariants.{Put}
-use Rattle.step_codec.specs.Written.{written}
 use Rattle.site_history.specs.Terms.{Terms}
 use Rattle.site_history.specs.Site.{Site, first_fields}
 use Rattle.site_history.specs.Steps.{HistoryStep, HasBytes}

@@ -1,5 +1,4 @@
 -- What a refused reopening tells of the journal.
-use Rattle.std.specs.Prelude.{ℕ}
 use Rattle.bank.specs.Content.{Content}
 use Rattle.site_events.specs.declared.reply.Reply.{Reply}
 use Rattle.site_events.specs.declared.reply.Reply.TheVariants.{BadJournal as BadJournalReply}

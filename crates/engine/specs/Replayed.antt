@@ -1,5 +1,5 @@
 -- What was read of a journal.
-use Rattle.std.specs.Prelude.{◌≡◌, ℕ, Bool, IsTrue, length, List}
+use Rattle.std.specs.Prelude.{◌≡◌, Bool, IsTrue, length, List}
 use Rattle.bank.specs.Content.{Content}
 use Rattle.journal.specs.Records.{AreRecords, IsEnd, end_of}
 use Rattle.journal.specs.Readers.{ReaderState}

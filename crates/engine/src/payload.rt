@@ -6,8 +6,8 @@ ghost use Rattle.step_codec.specs.Written.{written, InRange};
 ghost use Rattle.journal.specs.Records.{IsPayload};
 
 use site_types::Step;
-use step_codec::encode_step;
 use std::alloc::AllocError;
+use step_codec::encode_step;
 
 /// Puts a step's written form in the place of what the buffer has.
 pub fn write_payload(step: &Step, payload: &mut Vec<u8>) -> Result<(), AllocError>

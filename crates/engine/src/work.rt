@@ -18,8 +18,8 @@ use crate::data::{load_all, store};
 use bank::{Bank, BankFailed};
 use base::Bytes;
 use decisions::Work;
-use site_types::{Run, Step, StepKind};
 use site_events::Reply;
+use site_types::{Run, Step, StepKind};
 
 // The runs of a put's step.
 fn runs_of(step: &Step) -> &[Run]

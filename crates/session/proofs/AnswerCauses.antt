@@ -108,7 +108,7 @@ no_folder_fault terms false told w event now area journal w' turn = omega (arith
 no_folder_fault terms true told w event now area journal w' (inl (steps, reopened, turn)) = omega (arith, same_cause told _ FolderFault turn.0, machine_calm terms steps (moment_of (clock_from terms told w steps) now) event)
 no_folder_fault terms true told w event now area journal w' (inr (refuses, same)) = refuses
 
-pub event_folder : (terms : Terms) (told : Bool) (w : World) (event : Event) (now area : ℕ) (journal : Content) (reply : Reply) (w' : World) (before after terms : ℕ) → EventTurn terms told w event now area journal reply w' → before ≤ after terms
-    → AreCounted before (folder_faults_of reply) after terms
-event_folder terms told w event now area journal FolderFault w' before after terms turn later = absurd (no_folder_fault terms w.due told w event now area journal w' turn)
-event_folder terms told w event now area journal _ w' before after terms turn later = omega (arith, later)
+pub event_folder : (terms : Terms) (told : Bool) (w : World) (event : Event) (now area : ℕ) (journal : Content) (reply : Reply) (w' : World) (before after : ℕ) → EventTurn terms told w event now area journal reply w' → before ≤ after
+    → AreCounted before (folder_faults_of reply) after
+event_folder terms told w event now area journal FolderFault w' before after turn later = absurd (no_folder_fault terms w.due told w event now area journal w' turn)
+event_folder terms told w event now area journal _ w' before after turn later = omega (arith, later)

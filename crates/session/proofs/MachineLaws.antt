@@ -82,7 +82,7 @@ calm_answers told defined stage reply stage' other (inl e, same) calm = (line_re
 calm_answers told defined stage reply stage' other (inr e, same) calm = not_lost reply NoMemory refl e calm
 
 -- A reply and a stage are what the machine tells, by texts that a folder may have given.
-abbrev IsToldOf : (terms : Terms) → Terms → Bool → Option (List NamedText) → Stage → Result Asked LineRefusal → Reply → Stage → Type 0
+abbrev IsToldOf : Terms → Bool → Option (List NamedText) → Stage → Result Asked LineRefusal → Reply → Stage → Type 0
 IsToldOf terms told folder stage demand reply stage' = (texts : SiteTexts) × AreRead folder texts × IsToldBy told (machine_tells terms texts stage demand) reply stage'
 
 told_read : (folder : Option (List NamedText)) → AreRead folder (texts_told folder)

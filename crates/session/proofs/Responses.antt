@@ -88,29 +88,29 @@ refused_folder WantOfMemory before after later = omega (arith, later)
 
 -- From a stage at which a session stands. `faults` and `faults'` are the folder's counts before and after, `clock` and `clock'` what
 -- the clock tells.
-module _ {B P : Type 0} (told : Bool) (view : B → View) (engine : Engine B P) (own_moment : Option ℕ) (clock : Option (List ℕ)) (folder : Option (List NamedText)) (faults faults' : ℕ) (stage : Stage)
+module _ (terms : Terms) {B P : Type 0} (told : Bool) (view : B → View) (engine : Engine B P) (own_moment : Option ℕ) (clock : Option (List ℕ)) (folder : Option (List NamedText)) (faults faults' : ℕ) (stage : Stage)
     (stands : StandsAt terms told view engine own_moment clock stage) where
   -- An event was served at the moment that was taken.
-  pub served : (terms area : ℕ) (journal : Content) (event : Event) (now : ℕ) (clock' : Option (List ℕ)) (reply : Reply) (engine' : Engine B P) → Gives (moments_of own_moment clock) (moments_of own_moment clock') now
+  pub served : (area : ℕ) (journal : Content) (event : Event) (now : ℕ) (clock' : Option (List ℕ)) (reply : Reply) (engine' : Engine B P) → Gives (moments_of own_moment clock) (moments_of own_moment clock') now
       → (w' : World) × EventTurn terms told stage.world event now area journal reply w' × Moves terms told view engine engine' stage.world w'
       → (stage' : Stage) × IsEvent terms told stage event area journal reply stage' × IsMoved terms told view engine engine' own_moment clock' stage stage'
-  served terms area journal event now clock' reply engine' gives turn = (
+  served area journal event now clock' reply engine' gives turn = (
     record { world = turn.0; moments = moments_of own_moment clock' },
     (now, subst (λ (ms : Option (List ℕ)). Gives ms (moments_of own_moment clock') now) (sym stands.moments) gives, turn.1),
     record { world = turn.2; moments = refl },
   )
 
   -- The round that a reply makes, where the session stands after it, and what the folder counted.
-  abbrev pub Responds : Terms → Result Asked LineRefusal → ℕ → Content → Reply → Engine B P → Option ℕ → Option (List ℕ) → Type 0
-  Responds terms demand area journal reply engine' own_moment' clock' = (stage' : Stage) × IsRoundOf terms told folder stage demand area journal reply stage'
+  abbrev pub Responds : Result Asked LineRefusal → ℕ → Content → Reply → Engine B P → Option ℕ → Option (List ℕ) → Type 0
+  Responds demand area journal reply engine' own_moment' clock' = (stage' : Stage) × IsRoundOf terms told folder stage demand area journal reply stage'
       × IsMoved terms told view engine engine' own_moment' clock' stage stage' × AreCounted faults (folder_faults_of reply) faults'
 
   module _ (later : faults ≤ faults') where
     -- An event was answered by the engine.
-    pub event_response : (terms area : ℕ) (journal : Content) (event : Event) (demand : Result Asked LineRefusal) (reply : Reply) (engine' : Engine B P) (clock' : Option (List ℕ)) → IsReadAs (Ok (One event)) demand
+    pub event_response : (area : ℕ) (journal : Content) (event : Event) (demand : Result Asked LineRefusal) (reply : Reply) (engine' : Engine B P) (clock' : Option (List ℕ)) → IsReadAs (Ok (One event)) demand
         → (stage' : Stage) × IsEvent terms told stage event area journal reply stage' × IsMoved terms told view engine engine' own_moment clock' stage stage'
-        → Responds terms demand area journal reply engine' own_moment clock'
-    event_response terms area journal event demand reply engine' clock' read turn = (
+        → Responds demand area journal reply engine' own_moment clock'
+    event_response area journal event demand reply engine' clock' read turn = (
       turn.0,
       subst (λ (r : Result Asked LineRefusal). IsRoundOf terms told folder stage r area journal reply turn.0) (request_read (One event) demand read) (inr turn.1),
       turn.2,
@@ -118,10 +118,10 @@ module _ {B P : Type 0} (told : Bool) (view : B → View) (engine : Engine B P) 
     )
 
     -- So was the event of the texts that the folder gave.
-    pub configured_response : (terms area : ℕ) (journal : Content) (texts : SiteTexts) (reply : Reply) (engine' : Engine B P) (clock' : Option (List ℕ)) → AreRead folder texts
+    pub configured_response : (area : ℕ) (journal : Content) (texts : SiteTexts) (reply : Reply) (engine' : Engine B P) (clock' : Option (List ℕ)) → AreRead folder texts
         → (stage' : Stage) × IsEvent terms told stage (ConfigureEvent texts) area journal reply stage' × IsMoved terms told view engine engine' own_moment clock' stage stage'
-        → Responds terms (Ok Configure) area journal reply engine' own_moment clock'
-    configured_response terms area journal texts reply engine' clock' read turn = (
+        → Responds (Ok Configure) area journal reply engine' own_moment clock'
+    configured_response area journal texts reply engine' clock' read turn = (
       turn.0,
       inr (texts, read, turn.1),
       turn.2,
@@ -129,10 +129,10 @@ module _ {B P : Type 0} (told : Bool) (view : B → View) (engine : Engine B P) 
     )
 
     -- `configure` was asked, which was answered so.
-    pub configure_response : (terms area : ℕ) (journal : Content) (demand : Result Asked LineRefusal) (reply : Reply) (engine' : Engine B P) (own_moment' : Option ℕ) (clock' : Option (List ℕ)) → IsReadAs (Ok Configure) demand
-        → Responds terms (Ok Configure) area journal reply engine' own_moment' clock' → Responds terms demand area journal reply engine' own_moment' clock'
-    configure_response terms area journal demand reply engine' own_moment' clock' read responds =
-        subst (λ (r : Result Asked LineRefusal). Responds terms r area journal reply engine' own_moment' clock') (request_read Configure demand read) responds
+    pub configure_response : (area : ℕ) (journal : Content) (demand : Result Asked LineRefusal) (reply : Reply) (engine' : Engine B P) (own_moment' : Option ℕ) (clock' : Option (List ℕ)) → IsReadAs (Ok Configure) demand
+        → Responds (Ok Configure) area journal reply engine' own_moment' clock' → Responds demand area journal reply engine' own_moment' clock'
+    configure_response area journal demand reply engine' own_moment' clock' read responds =
+        subst (λ (r : Result Asked LineRefusal). Responds r area journal reply engine' own_moment' clock') (request_read Configure demand read) responds
 
     module _ (sound : IsTrue told → IsSound (view engine.bank)) where
       -- The engine was not asked.
@@ -146,10 +146,10 @@ module _ {B P : Type 0} (told : Bool) (view : B → View) (engine : Engine B P) 
       stays = record { world = still; moments = stands.moments }
 
       -- The session was given a moment of its own.
-      pub at_response : (terms area : ℕ) (journal : Content) (moment moved : ℕ) (demand : Result Asked LineRefusal) (own_moment' : Option ℕ) (clock' : Option (List ℕ)) → IsReadAs (Ok (AskedAt moment)) demand
+      pub at_response : (area : ℕ) (journal : Content) (moment moved : ℕ) (demand : Result Asked LineRefusal) (own_moment' : Option ℕ) (clock' : Option (List ℕ)) → IsReadAs (Ok (AskedAt moment)) demand
           → (now : ℕ) × IfSome (moments_of own_moment clock) (λ (moments : List ℕ). now ≡ next_moment moments) × (moved ≡ max moment now) → own_moment' ≡ Some moved
-          → Responds terms demand area journal (At moved) engine own_moment' clock'
-      at_response terms area journal moment moved demand own_moment' clock' read is is_own = (
+          → Responds demand area journal (At moved) engine own_moment' clock'
+      at_response area journal moment moved demand own_moment' clock' read is is_own = (
         record { world = stage.world; moments = own (max moment is.0) },
         subst (λ (r : Result Asked LineRefusal). IsRoundOf terms told folder stage r area journal (At moved) (record { world = stage.world; moments = own (max moment is.0) })) (request_read (AskedAt moment) demand read)
             (inr (is.0, subst (λ (ms : Option (List ℕ)). IfSome ms (λ (moments : List ℕ). is.0 ≡ next_moment moments)) (sym stands.moments) is.1, ap (λ (n : ℕ). At n) is.2, refl)),
@@ -158,13 +158,13 @@ module _ {B P : Type 0} (told : Bool) (view : B → View) (engine : Engine B P) 
       )
 
       -- No text could be read of the folder.
-      pub unread_response : (terms area : ℕ) (journal : Content) (reply : Reply) → (reply ≡ FolderFault) ⊎ (reply ≡ NoMemory) → AreCounted faults (folder_faults_of reply) faults' → Responds terms (Ok Configure) area journal reply engine own_moment clock
-      unread_response terms area journal reply unread counted = (stage, inl (unread, refl), stays, counted)
+      pub unread_response : (area : ℕ) (journal : Content) (reply : Reply) → (reply ≡ FolderFault) ⊎ (reply ≡ NoMemory) → AreCounted faults (folder_faults_of reply) faults' → Responds (Ok Configure) area journal reply engine own_moment clock
+      unread_response area journal reply unread counted = (stage, inl (unread, refl), stays, counted)
 
       -- What was asked is no command.
-      pub other_response : (terms area : ℕ) (journal : Content) (asked : Asked) (demand : Result Asked LineRefusal) → ((event : Event) → asked ≡ One event → ⊥) → ((moment : ℕ) → asked ≡ AskedAt moment → ⊥) → (asked ≡ Configure → ⊥)
-          → IsReadAs (Ok asked) demand → Responds terms demand area journal (Line NotACommand) engine own_moment clock
-      other_response terms area journal asked demand not_one not_at not_configure read = (
+      pub other_response : (area : ℕ) (journal : Content) (asked : Asked) (demand : Result Asked LineRefusal) → ((event : Event) → asked ≡ One event → ⊥) → ((moment : ℕ) → asked ≡ AskedAt moment → ⊥) → (asked ≡ Configure → ⊥)
+          → IsReadAs (Ok asked) demand → Responds demand area journal (Line NotACommand) engine own_moment clock
+      other_response area journal asked demand not_one not_at not_configure read = (
         stage,
         subst (λ (r : Result Asked LineRefusal). IsRoundOf terms told folder stage r area journal (Line NotACommand) stage) (request_read asked demand read) (no_command terms told folder stage asked area journal not_one not_at not_configure),
         stays,
@@ -172,9 +172,9 @@ module _ {B P : Type 0} (told : Bool) (view : B → View) (engine : Engine B P) 
       )
 
       -- The request was refused, or no memory was found for it.
-      pub refused_response : (terms area : ℕ) (journal : Content) (refusal : LineRefusal) (demand : Result Asked LineRefusal) (reply : Reply) → IsReadAs (Err refusal) demand → reply ≡ reply_to refusal
-          → Responds terms demand area journal reply engine own_moment clock
-      refused_response terms area journal refusal demand reply read is = (
+      pub refused_response : (area : ℕ) (journal : Content) (refusal : LineRefusal) (demand : Result Asked LineRefusal) (reply : Reply) → IsReadAs (Err refusal) demand → reply ≡ reply_to refusal
+          → Responds demand area journal reply engine own_moment clock
+      refused_response area journal refusal demand reply read is = (
         stage,
         subst (λ (r : Reply). IsRoundOf terms told folder stage demand area journal r stage) (sym is) (refused_round terms told folder stage refusal demand area journal read),
         stays,

@@ -28,7 +28,8 @@ pub trait Protocol: Drop {
     /// What it has read ahead, and how much more it may read.
     ghost reading: { Self → Reading };
 
-    /// Reads the next request.
+    /// Reads the next request. One for which no memory is found is read to its end all the same, and heard as
+    /// `LineRefusal::NoMemory`; its answer is that of want of memory, or where its form is never written the session ends.
     fn hear<I: Source>(&mut self, alloc: Global, input: &mut I) -> Heard<Self::Form>
         ensures hears { Hears asks text closes (I.left input.old) (I.left input.new) (I.faults input.old) (I.faults input.new) (reading self.old) (reading self.new) result }
         ensures later { I.faults input.old ≤ I.faults input.new }

@@ -2,8 +2,8 @@
 
 use crate::runs::expect_with;
 use crate::texts::texts_of;
-use site_types::SiteTexts;
 use site_events::CommandFile;
+use site_types::SiteTexts;
 use std::test::Fail;
 
 /// A cache of 1 MiB, and a library with two volumes.

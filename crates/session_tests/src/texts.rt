@@ -2,8 +2,8 @@
 
 use base::{Bytes, List};
 use outside::{MemoryFolder, NamedText};
-use site_types::SiteTexts;
 use site_events::CommandFile;
+use site_types::SiteTexts;
 use std::alloc::{AllocError, Global};
 
 /// The texts of these files. The others are empty.

@@ -9,7 +9,7 @@ use Rattle.site_types.specs.declared.file.FileRec.{FileRec}
 use Rattle.site_types.specs.declared.file.Run.{Run}
 use Rattle.cache_space.specs.Space.{taken_by, AreApart}
 use Rattle.site_history.specs.Terms.{Terms}
-use Rattle.site_history.specs.Site.{Fields, Site, file_at, held_runs, cache_blocks}
+use Rattle.site_history.specs.Site.{Fields, file_at, held_runs, cache_blocks}
 use Rattle.site_history.specs.Changes.{with_file, without_file, IsThere}
 use Rattle.site_history.specs.PutSteps.{stored_file, IsLegalPut, next_after, put_effect}
 use Rattle.site_history.specs.AccessedSteps.{accessed_by}

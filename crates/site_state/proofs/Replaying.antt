@@ -1,5 +1,5 @@
 -- What the reading of a payload says, where it was of no step, and where of one.
-use Rattle.std.proofs.Common.{◌≡◌, ℕ, List, refl, sym, ◌∙◌, ap, subst, Option, Some, None, Result, Ok, Err}
+use Rattle.std.proofs.Common.{◌≡◌, ℕ, List, sym, ◌∙◌, ap, subst, Option, Some, None, Result, Ok, Err}
 use Rattle.std.specs.Prelude.{IfOk, IfSome, MatchOption}
 use Rattle.site_types.specs.declared.step.Step.{Step}
 use Rattle.step_codec.specs.Written.{written, InRange}

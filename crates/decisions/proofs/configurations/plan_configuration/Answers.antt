@@ -3,7 +3,6 @@ use Rattle.std.specs.Prelude.{option_map}
 use Rattle.configuration.specs.declared.read.ConfigurationError.{ConfigurationError}
 use Rattle.configuration.specs.declared.read.FileRefusal.{FileRefusal}
 use Rattle.configuration.specs.ConfigurationSteps.{refusal_of, TellsRefusal}
-use Rattle.site_history.specs.Histories.{after}
 use Rattle.site_history.specs.ConfigureAnswers.{conf_refused}
 use Rattle.site_history.proofs.StepRanges.{configured-range, configured-short}
 use Rattle.site_history.proofs.Turns.{configure-refused}

@@ -1,6 +1,5 @@
 use Rattle.std.proofs.Common.{◌≡◌, ℕ, List, true, None, ◌∙◌, subst}
 use Rattle.base.specs.Paths.{is_legal_path, is_legal_name}
-use Rattle.site_history.specs.Histories.{after}
 use Rattle.site_history.proofs.StepRanges.{put_in_range, put_short}
 use Rattle.site_history.proofs.Turns.{put-refused}
 use Rattle.decisions.proofs.Planned.{same_rule, put_planned}

@@ -1,5 +1,4 @@
 use Rattle.std.proofs.Common.{None, ◌∙◌, arith}
-use Rattle.site_history.specs.Histories.{after}
 use Rattle.site_history.proofs.StepRanges.{accessed_in_range, accessed_short}
 use Rattle.site_history.proofs.Turns.{read-missing}
 use Rattle.decisions.proofs.Planned.{finds_none, finds_file, read_planned}

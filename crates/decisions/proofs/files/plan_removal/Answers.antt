@@ -1,5 +1,4 @@
 use Rattle.std.proofs.Common.{None}
-use Rattle.site_history.specs.Histories.{after}
 use Rattle.site_history.proofs.StepRanges.{removed_in_range, removed_short}
 use Rattle.site_history.proofs.Turns.{remove-missing}
 use Rattle.decisions.proofs.Planned.{finds_none, finds_file, removal_planned}

@@ -1,4 +1,4 @@
-use Rattle.std.proofs.Common.{ℕ, List, ◌∙◌, subst}
+use Rattle.std.proofs.Common.{ℕ, ◌∙◌, subst}
 use Rattle.bank.specs.Content.{Content}
 use Rattle.bank.proofs.Readings.{read_then_read}
 use Rattle.journal.specs.Records.{HoldsRecords}

@@ -1,5 +1,4 @@
-use Rattle.std.proofs.Common.{◌≡◌, ℕ, ◌+◌, ◌<◌, ◌^◌, List, length, refl, sym, ◌∙◌, subst, arith, IsTrue}
-use Rattle.bank.specs.Content.{Content}
+use Rattle.std.proofs.Common.{ℕ, ◌+◌, ◌<◌, ◌^◌, List, length, refl, sym, ◌∙◌, subst, arith}
 use Rattle.bank.proofs.Readings.{nothing_read, read_then_read}
 use Rattle.journal.specs.Readers.{IsFound, GoesOn}
 use Rattle.journal.specs.declared.reader.Found.{Found}

@@ -1,7 +1,6 @@
-use Rattle.std.proofs.Common.{ℕ, refl, ◌∙◌, subst}
+use Rattle.std.proofs.Common.{ℕ, refl, ◌∙◌, subst, rules}
 use Rattle.journal.specs.Records.{HoldsRecords}
 use Rattle.site_history.specs.Histories.{written_forms}
-use Rattle.site_history.specs.Journals.{IsBadJournal}
 use Rattle.engine.specs.declared.engine.ShutCause.{ShutCause}
 use Rattle.engine.specs.Journals.{TellsJournal}
 use Rattle.engine.proofs.Standing.{stays, not_bad, recovered}
@@ -36,5 +35,5 @@ returns-in-Err-BadJournal-clause-recovered g c = λ terms told tells w s due. (
 
 pub returns-in-Err-BadJournal-clause-bad_journal : goal.returns-in-Err-BadJournal-clause-bad_journal
 returns-in-Err-BadJournal-clause-bad_journal g c = λ t terms size.
-    subst (λ (cause : ShutCause). TellsJournal terms ((g.B.Bank.view c.read_site.new.bank).content 0) cause) c.in-Err-BadJournal.field-0-is
-    (c.in-Err-BadJournal.ensures.bad t terms (c.size.ensures.size ∙ size))
+    let bad = c.in-Err-BadJournal.ensures.bad t terms (c.size.ensures.size ∙ size) in
+    search rules

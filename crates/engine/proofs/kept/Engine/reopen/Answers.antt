@@ -28,9 +28,11 @@ returns-in-Ok-read_site-clause-held g c = λ terms size.
 
 pub returns-in-Ok-read_site-clause-journal : goal.returns-in-Ok-read_site-clause-journal
 returns-in-Ok-read_site-clause-journal g c = λ told terms size.
-    let read = c.in-Ok-read_site.ensures.read terms in
-    (read.0, holds_before terms (g.B.Bank.view c.args.bank) (g.B.Bank.view c.read_site.new.bank) read.0 (c.in-Ok-read_site.ensures.unchanged told) read.1.history
-    (subst (λ (n : ℕ). HoldsRecords ((g.B.Bank.view c.read_site.new.bank).content 0) 0 (written_forms read.0) n) size (read.2 told)))
+    let read = c.in-Ok-read_site.ensures.read terms in (
+      read.0,
+      holds_before terms (g.B.Bank.view c.args.bank) (g.B.Bank.view c.read_site.new.bank) read.0 (c.in-Ok-read_site.ensures.unchanged told) read.1.history
+          (subst (λ (n : ℕ). HoldsRecords ((g.B.Bank.view c.read_site.new.bank).content 0) 0 (written_forms read.0) n) size (read.2 told)),
+    )
 
 pub returns-in-Err-clause-bad_journal : goal.returns-in-Err-clause-bad_journal
 returns-in-Err-clause-bad_journal g c = λ told terms size.

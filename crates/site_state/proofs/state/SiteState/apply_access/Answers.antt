@@ -1,4 +1,4 @@
-use Rattle.std.proofs.Common.{List, length, refl, sym, ◌∙◌, ap}
+use Rattle.std.proofs.Common.{List, refl, sym, ◌∙◌, ap}
 use Rattle.cache_space.specs.Space.{taken_by}
 use Rattle.site_types.specs.declared.file.Run.{Run}
 use Rattle.site_history.specs.Site.{cache_blocks}

@@ -1,4 +1,4 @@
-use Rattle.std.proofs.Common.{◌≡◌, List, ◌++◌, length, refl, sym, ◌∙◌, subst}
+use Rattle.std.proofs.Common.{◌≡◌, List, ◌++◌, refl, sym, ◌∙◌, subst}
 use Rattle.cache_space.specs.Space.{taken_by, AreApart}
 use Rattle.site_types.specs.declared.file.Run.{Run}
 use Rattle.site_state.proofs.Effects.{removed_list, removed_space, not_there}
