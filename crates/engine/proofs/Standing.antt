@@ -84,7 +84,7 @@ not_bad terms true u v w place images sound only bad =
 
 -- a world of a history from the first site
 fresh : (terms : Terms) (history : List HistoryStep) (clock : ℕ) → IsHistory terms history → IsFreshWorld terms (at history clock)
-fresh terms history clock h = record { kept = first_stands terms history clock h; idle = refl; ready = refl; nothing_owed = refl }
+fresh terms history clock h = record { kept = first_stands terms history clock h; first = record { base = refl; place = refl }; idle = refl; ready = refl; nothing_owed = refl }
 
 module _ (terms : Terms) {B P : Type 0} (view : B → View) (old new : Engine B P) (w : World) where
   -- nothing changed but the store, of which nothing was written

@@ -75,8 +75,8 @@ Turn terms told w event moment area reply w' = TurnBy (course_of reply area) tol
 -- ---- a reopening
 
 -- Where it leads: to the history or to that with the step that is owed, whichever the journal's area, as it read when the event
--- began, holds the records of. A store that tells nothing may lead to any world on a kept base; where that ends later than the
--- clock, the clock goes on to its moment.
+-- began, holds the records of. A store that tells nothing may lead to any fresh world; where that ends later than the clock, the
+-- clock goes on to its moment.
 abbrev pub IsReopened : Terms → Bool → Content → World → World → Type 0
 IsReopened terms true read w w0 = (steps : List HistoryStep) × IsWithOrWithout w steps × HoldsHistory terms read steps × (w0 ≡ at steps w.clock)
 IsReopened terms false read w w0 = IsFreshWorld terms w0 × (w0.clock ≡ max w.clock (site_of terms w0).fields.moment)
@@ -112,8 +112,8 @@ TellsConfiguration terms told w read texts reply =
     ((w0 : World) × IsServedIn terms w.due told w read w0 × TellsFirstWrong (site_of terms w0).fields texts reply)
     ⊎ ((w.due ≡ true) × RefusesReopening told reply)
 
--- The world that a store is opened with: the new one of the history for which it is settled; where it tells nothing, any on a
--- kept base, at the moment of its last step.
+-- The world that a store is opened with: the new one of the history for which it is settled; where it tells nothing, any fresh
+-- one, at the moment of its last step.
 abbrev pub IsFound : Terms → Bool → List HistoryStep → World → Type 0
 IsFound terms true before w = w ≡ new_world terms before
 IsFound terms false before w = IsFreshWorld terms w × (w.clock ≡ (site_of terms w).fields.moment)

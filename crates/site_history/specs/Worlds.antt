@@ -66,9 +66,10 @@ pub record IsFromFirst (w : World) : Type 0 where
   pub base : w.base ≡ first_base
   pub place : w.place ≡ journal_length w.history
 
--- on any kept base, nothing runs and nothing is open
+-- A world as the journal gives it: nothing runs and nothing is open. The journal holds all steps since the first site.
 pub record IsFreshWorld (terms : Terms) (w : World) : Type 0 where
   pub kept : IsOnKeptBase terms w
+  pub first : IsFromFirst w
   pub idle : w.running ≡ nothing_runs
   pub ready : w.due ≡ false
   pub nothing_owed : w.owed ≡ None
