@@ -14,13 +14,13 @@ use Rattle.configuration.specs.declared.read.FileRefusal.{FileRefusal}
 use Rattle.configuration.specs.ConfigurationSteps.{refusal_of, are_within}
 use Rattle.site_history.specs.Terms.{Terms}
 use Rattle.site_history.specs.Site.{Fields, FileBytes, Site, file_at}
-use Rattle.site_history.specs.Steps.{HistoryStep}
 use Rattle.site_history.specs.Answers.{answer_to}
 use Rattle.site_history.specs.ConfigureAnswers.{conf_refused, has_files, configure_refusal, configure_answer, configure_answer_by}
 use Rattle.site_history.specs.FileAnswers.{put_rule, put_answer_by, read_answer_of, remove_answer_of}
+use Rattle.site_history.specs.Running.{Running}
 use Rattle.site_history.specs.Replies.{Answer}
-use Rattle.site_history.specs.Histories.{after}
-use Rattle.site_history.specs.Worlds.{World, Turn, EventTurn, EventTurnBy, Goes, course_of, answer_in, has_room, moment_of, clock_from, IsReply}
+use Rattle.site_history.specs.Worlds.{World, site_of}
+use Rattle.site_history.specs.Turns.{Turn, EventTurn, EventTurnBy, Goes, course_of, answer_in, has_room, moment_of, IsReply}
 use Rattle.session.specs.Rounds.{cause_of, faults_of, folder_faults_of, is_as_defined}
 
 -- A choice of two answers that are no cause is none.
@@ -29,17 +29,17 @@ chosen true a b h k = h
 chosen false a b h k = k
 
 -- The answer to a put, a read or a removal is no cause of a status.
-put_calm : (rule : Option Rule) (fields : Fields) (moment : ℕ) (path owner group bytes : List ℕ) → cause_of (put_answer_by rule fields moment path owner group bytes).reply ≡ 0
-put_calm (Some rule) fields moment path owner group bytes = refl
-put_calm None fields moment path owner group bytes = refl
+put_calm : (rule : Option Rule) (fields : Fields) (running : Running) (moment : ℕ) (path owner group bytes : List ℕ) → cause_of (put_answer_by rule fields running moment path owner group bytes).reply ≡ 0
+put_calm (Some rule) fields running moment path owner group bytes = refl
+put_calm None fields running moment path owner group bytes = refl
 
-read_calm : (file : Option FileRec) (contents : List FileBytes) (moment upto : ℕ) → cause_of (read_answer_of file contents moment upto).reply ≡ 0
-read_calm None contents moment upto = refl
-read_calm (Some file) contents moment upto = refl
+read_calm : (file : Option FileRec) (contents : List FileBytes) (running : Running) (moment upto : ℕ) → cause_of (read_answer_of file contents running moment upto).reply ≡ 0
+read_calm None contents running moment upto = refl
+read_calm (Some file) contents running moment upto = refl
 
-remove_calm : (file : Option FileRec) (moment : ℕ) → cause_of (remove_answer_of file moment).reply ≡ 0
-remove_calm None moment = refl
-remove_calm (Some file) moment = refl
+remove_calm : (file : Option FileRec) (running : Running) (moment : ℕ) → cause_of (remove_answer_of file running moment).reply ≡ 0
+remove_calm None running moment = refl
+remove_calm (Some file) running moment = refl
 
 -- Nor is that to a configuration.
 refusal_chosen : (t : Bool) (a b : Option Reply) → IfSome a (λ reply. cause_of reply ≡ 0) → IfSome b (λ reply. cause_of reply ≡ 0) → IfSome (cond t a b) (λ reply. cause_of reply ≡ 0)
@@ -50,26 +50,26 @@ conf_calm : (refusal : Option FileRefusal) → IfSome (option_map conf_refused r
 conf_calm None = tt
 conf_calm (Some refusal) = refl
 
-configure_calm : (refusal : Option Reply) (moment : ℕ) (texts : SiteTexts) → IfSome refusal (λ reply. cause_of reply ≡ 0) → cause_of (configure_answer_by refusal moment texts).reply ≡ 0
-configure_calm (Some reply) moment texts calm = calm
-configure_calm None moment texts calm = refl
+configure_calm : (refusal : Option Reply) (running : Running) (moment : ℕ) (texts : SiteTexts) → IfSome refusal (λ reply. cause_of reply ≡ 0) → cause_of (configure_answer_by refusal running moment texts).reply ≡ 0
+configure_calm (Some reply) running moment texts calm = calm
+configure_calm None running moment texts calm = refl
 
-configuration_calm : (fields : Fields) (moment : ℕ) (texts : SiteTexts) → cause_of (configure_answer fields moment texts).reply ≡ 0
-configuration_calm fields moment texts = configure_calm (configure_refusal fields texts) moment texts
+configuration_calm : (fields : Fields) (running : Running) (moment : ℕ) (texts : SiteTexts) → cause_of (configure_answer fields running moment texts).reply ≡ 0
+configuration_calm fields running moment texts = configure_calm (configure_refusal fields texts) running moment texts
     (refusal_chosen (has_files fields) _ _ refl (refusal_chosen (not (are_within texts)) _ _ refl (conf_calm (refusal_of texts))))
 
 -- Nor is the answer to any other event.
-answer_calm : (terms : Terms) (site : Site) (moment : ℕ) (event : Event) → cause_of (answer_to terms site moment event).reply ≡ 0
-answer_calm terms site moment (PutEvent path owner group bytes) = put_calm (put_rule site.fields path owner group (length bytes)) site.fields moment path owner group bytes
-answer_calm terms site moment (ReadEvent path upto) = read_calm (file_at path site.fields.files) site.contents moment upto
-answer_calm terms site moment (RemoveEvent path) = remove_calm (file_at path site.fields.files) moment
-answer_calm terms site moment (ConfigureEvent texts) = configuration_calm site.fields moment texts
-answer_calm terms site moment _ = refl
+answer_calm : (terms : Terms) (site : Site) (running : Running) (moment : ℕ) (event : Event) → cause_of (answer_to terms site running moment event).reply ≡ 0
+answer_calm terms site running moment (PutEvent path owner group bytes) = put_calm (put_rule site.fields path owner group (length bytes)) site.fields running moment path owner group bytes
+answer_calm terms site running moment (ReadEvent path upto) = read_calm (file_at path site.fields.files) site.contents running moment upto
+answer_calm terms site running moment (RemoveEvent path) = remove_calm (file_at path site.fields.files) running moment
+answer_calm terms site running moment (ConfigureEvent texts) = configuration_calm site.fields running moment texts
+answer_calm terms site running moment _ = refl
 
 -- What the machine answers is no cause of a status.
-machine_calm : (terms : Terms) (history : List HistoryStep) (moment : ℕ) (event : Event) → cause_of (answer_in terms history moment event).reply ≡ 0
-machine_calm terms history moment event =
-    chosen (has_room terms history (answer_to terms (after terms history) moment event).step) _ _ (answer_calm terms (after terms history) moment event) refl
+machine_calm : (terms : Terms) (w : World) (moment : ℕ) (event : Event) → cause_of (answer_in terms w moment event).reply ≡ 0
+machine_calm terms w moment event =
+    chosen (has_room terms w.place (answer_to terms (site_of terms w) w.running moment event).step) _ _ (answer_calm terms (site_of terms w) w.running moment event) refl
 
 -- A reply that no fault or want of memory gives is the defined one.
 pub calm_goes : (reply : Reply) (area : ℕ) → is_as_defined reply ≡ true → course_of reply area ≡ Goes
@@ -95,17 +95,17 @@ same_cause false _ reply e = ap cause_of e
 abbrev pub CauseOf : Reply → Type 0
 CauseOf reply = (cause_of reply ≡ 0) ⊎ (((cause_of reply ≡ 3) × (faults_of reply + folder_faults_of reply ≡ 1)) ⊎ (cause_of reply ≡ 9))
 
-pub turn_cause : (terms : Terms) (told : Bool) (history : List HistoryStep) (event : Event) (moment area : ℕ) (reply : Reply) (w' : World) → Turn terms told history event moment area reply w' → CauseOf reply
-turn_cause terms told history event moment area BankFault w' turn = inr (inl (refl, refl))
-turn_cause terms told history event moment area NoMemory w' turn = inr (inr refl)
-turn_cause terms told history event moment area FolderFault w' turn = absurd (omega (arith, same_cause told _ FolderFault turn.0, machine_calm terms history moment event))
-turn_cause terms told history event moment area (BadJournal place) w' turn = absurd (omega (arith, same_cause told _ (BadJournal place) turn.0, machine_calm terms history moment event))
-turn_cause terms told history event moment area _ w' turn = inl refl
+pub turn_cause : (terms : Terms) (told : Bool) (w : World) (event : Event) (moment area : ℕ) (reply : Reply) (w' : World) → Turn terms told w event moment area reply w' → CauseOf reply
+turn_cause terms told w event moment area BankFault w' turn = inr (inl (refl, refl))
+turn_cause terms told w event moment area NoMemory w' turn = inr (inr refl)
+turn_cause terms told w event moment area FolderFault w' turn = absurd (omega (arith, same_cause told _ FolderFault turn.0, machine_calm terms w moment event))
+turn_cause terms told w event moment area (BadJournal place) w' turn = absurd (omega (arith, same_cause told _ (BadJournal place) turn.0, machine_calm terms w moment event))
+turn_cause terms told w event moment area _ w' turn = inl refl
 
 -- An event tells no fault of the folder.
 no_folder_fault : (terms : Terms) (due : Bool) (told : Bool) (w : World) (event : Event) (now area : ℕ) (journal : Content) (w' : World) → EventTurnBy terms due told w event now area journal FolderFault w' → ⊥
-no_folder_fault terms false told w event now area journal w' turn = omega (arith, same_cause told _ FolderFault turn.0, machine_calm terms w.history (moment_of w.clock now) event)
-no_folder_fault terms true told w event now area journal w' (inl (steps, reopened, turn)) = omega (arith, same_cause told _ FolderFault turn.0, machine_calm terms steps (moment_of (clock_from terms told w steps) now) event)
+no_folder_fault terms false told w event now area journal w' turn = omega (arith, same_cause told _ FolderFault turn.0, machine_calm terms w (moment_of w.clock now) event)
+no_folder_fault terms true told w event now area journal w' (inl (w0, reopened, turn)) = omega (arith, same_cause told _ FolderFault turn.0, machine_calm terms w0 (moment_of w0.clock now) event)
 no_folder_fault terms true told w event now area journal w' (inr (refuses, same)) = refuses
 
 pub event_folder : (terms : Terms) (told : Bool) (w : World) (event : Event) (now area : ℕ) (journal : Content) (reply : Reply) (w' : World) (before after : ℕ) → EventTurn terms told w event now area journal reply w' → before ≤ after

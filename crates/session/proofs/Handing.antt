@@ -1,12 +1,13 @@
 -- From the session of an engine to the session of a call.
-use Rattle.std.proofs.Common.{◌≡◌, inl, inr, ℕ, ◌≤◌, List, ◌++◌, refl, sym, ◌∙◌, ap, subst, arith, Bool, Option, Some, IsTrue}
+use Rattle.std.proofs.Common.{◌≡◌, inl, inr, ℕ, ◌≤◌, List, ◌++◌, refl, sym, ◌∙◌, ap, subst, arith, Bool, true, false, Option, Some, None, IsTrue}
 use Rattle.outside.specs.declared.folder.NamedText.{NamedText}
 use Rattle.bank.specs.Content.{Content}
 use Rattle.bank.specs.View.{View, IsSound, OnlyRead}
 use Rattle.input.specs.Reading.{Items}
 use Rattle.site_history.specs.Terms.{Terms}
 use Rattle.site_history.specs.Steps.{HistoryStep}
-use Rattle.site_history.specs.Worlds.{World, new_world, IsFound}
+use Rattle.site_history.specs.Worlds.{Base, World}
+use Rattle.site_history.specs.Turns.{IsFound}
 use Rattle.site_history.specs.Images.{IsSettled, IsSettledAs, ReadsAs}
 use Rattle.site_history.specs.Journals.{HoldsHistory}
 use Rattle.site_history.proofs.JournalLaws.{not_bad_journal}
@@ -76,25 +77,35 @@ module _ (terms : Terms) (Asks : Items Request) (Stands Stands' : Stage → Type
 
 -- What a crash left since a mark holds the steps that the mark counts.
 all_held : (terms : Terms) (Asks : Items Request) (Stands : Stage → Type 0) (tells : Bool) (budget : ℕ) (store : View) (old new : Outside) (first : Stage) (marks : List Mark) (status : ℕ)
-    → (s : IsSession terms Asks Stands tells budget store old new first marks status) → IsTrue tells → AreHeld terms store (stage_after first (s.told ++ s.untold)).world.history marks
-all_held terms Asks Stands tells budget store old new first marks status s t =
+    → (s : IsSession terms Asks Stands tells budget store old new first marks status) → (IsTrue tells → first.world.base.steps ≡ 0) → IsTrue tells → AreHeld terms store (stage_after first (s.told ++ s.untold)).world.history marks
+all_held terms Asks Stands tells budget store old new first marks status s from_first t =
     subst (λ (ms : List Mark). AreHeld terms store (stage_after first (s.told ++ s.untold)).world.history ms) (sym s.marks_told)
-    (marks_held terms old.folder store old.moment 0 first s.told s.untold (s.kept t) (subst (λ (b : Bool). IsRun terms b old.folder first (s.told ++ s.untold)) t s.run))
+    (marks_held terms old.folder store old.moment 0 first s.told s.untold (from_first t) (s.kept t) (subst (λ (b : Bool). IsRun terms b old.folder first (s.told ++ s.untold)) t s.run))
 
 -- An engine that stands for a world leaves its store settled for it.
 leaves_settled : (terms : Terms) → {B P : Type 0} (told : Bool) (view : B → View) (engine : Engine B P) (w : World) → (IsTrue told → IsSound (view engine.bank)) → StandsFor terms told view engine w
     → IsTrue told → IsSettledAs terms (view engine.bank) w
 leaves_settled terms told view engine w sound stands t = settled_as terms (view engine.bank) w (sound t) (λ c image. stands.images t c image)
 
+-- The world that a store is opened with has nothing open.
+found_open : (terms : Terms) (told : Bool) (before : List HistoryStep) (found : World) → IsFound terms told before found → (found.due ≡ false) × (found.owed ≡ None)
+found_open terms true before found is = (ap (λ (w : World). w.due) is, ap (λ (w : World). w.owed) is)
+found_open terms false before found (fresh, is) = (fresh.ready, fresh.nothing_owed)
+
+-- And it stands on the first site.
+found_first : (terms : Terms) (told : Bool) (before : List HistoryStep) (found : World) → IsFound terms told before found → found.base.steps ≡ 0
+found_first terms true before found is = ap (λ (w : World). w.base.steps) is
+found_first terms false before found (fresh, is) = ap (λ (b : Base). b.steps) fresh.first.base
+
 -- A run of lines begins at the moment of the engine's clock.
-pub begins_at : (terms : Terms) → {B P : Type 0} (told : Bool) (view : B → View) (engine : Engine B P) (clock : Option (List ℕ)) (found : List HistoryStep) → StandsFor terms told view engine (new_world terms found) → StandsAt terms told view engine (Some engine.clock) clock (stage_of terms found)
+pub begins_at : (terms : Terms) → {B P : Type 0} (told : Bool) (view : B → View) (engine : Engine B P) (clock : Option (List ℕ)) (found : World) → StandsFor terms told view engine found → StandsAt terms told view engine (Some engine.clock) clock (stage_of found)
 begins_at terms told view engine clock found stands = record { world = stands; moments = ap (λ (n : ℕ). own n) (sym stands.clock) }
 
 -- What a call hands back after a session. `own_moment` and `clock` are the moments to come once the store is open, `own_moment'` and
 -- `clock'` those at the end.
-module _ (terms : Terms) {B P : Type 0} (Asks : Items Request) (begins : List HistoryStep → Stage) (told : Bool) (faults journal_faults last_fault : B → ℕ) (view : B → View) (left left' : Option (List ℕ)) (source_faults source_faults' : ℕ) (written written' : Option (List ℕ)) (sink_faults sink_faults' : ℕ)
+module _ (terms : Terms) {B P : Type 0} (Asks : Items Request) (begins : World → Stage) (told : Bool) (faults journal_faults last_fault : B → ℕ) (view : B → View) (left left' : Option (List ℕ)) (source_faults source_faults' : ℕ) (written written' : Option (List ℕ)) (sink_faults sink_faults' : ℕ)
     (texts texts' : Option (List NamedText)) (folder_faults folder_faults' : ℕ) (own_moment own_moment' : Option ℕ) (clock clock' : Option (List ℕ)) (bank : B) (opening closing : Engine B P) (before : List HistoryStep)
-    (at_new : (found : List HistoryStep) → (begins found).world ≡ new_world terms found) where
+    (at_found : (found : World) → (begins found).world ≡ found) where
   -- what is told before the call, once the store is open, and at the end
   abbrev seen_at : B → Outside
   seen_at from = record {
@@ -130,13 +141,16 @@ module _ (terms : Terms) {B P : Type 0} (Asks : Items Request) (begins : List Hi
     moment = (view to).moment;
   }
 
-  answered : (found : List HistoryStep) (budget : ℕ) (marks : List Mark) (status : ℕ) → IsFound terms told before found → (IsTrue told → OnlyRead (view bank) (view opening.bank))
+  answered : (found : World) (budget : ℕ) (marks : List Mark) (status : ℕ) → IsFound terms told before found → (IsTrue told → OnlyRead (view bank) (view opening.bank))
       → (IsTrue told → IsSettled terms (view bank) before) → (IsTrue told → IsSound (view closing.bank)) → faults bank ≤ faults opening.bank → journal_faults bank ≤ journal_faults opening.bank
       → (IsTrue told → Passes (view opening.bank) (view closing.bank))
       → IsSession terms Asks (StandsAt terms told view closing own_moment' clock') told budget (view closing.bank) seen_open (seen_after closing.bank) (begins found) marks status
       → IsAnswered terms Asks begins told budget (view bank) (view closing.bank) seen_before (seen_after closing.bank) before marks status
   answered found budget marks status is_found read settled sound fewer fewer_journal passes session =
       let Settled : Stage → Type 0 = λ stage. IsTrue told → IsSettledAs terms (view closing.bank) stage.world in
+      let open = found_open terms told before found is_found in
+      let rest : ((begins found).world.due ≡ false) × ((begins found).world.owed ≡ None) =
+      (ap (λ (w : World). w.due) (at_found found) ∙ open.0, ap (λ (w : World). w.owed) (at_found found) ∙ open.1) in
       let earlier : Outside = record seen_open { bank_faults = faults bank; journal_faults = journal_faults bank; last_fault = last_fault bank } in
       let whole_call : IsSession terms Asks Settled told budget (view closing.bank) earlier (seen_after closing.bank) (begins found) marks status =
       counted_earlier terms Asks (StandsAt terms told view closing own_moment' clock') Settled told budget (view closing.bank) seen_open (seen_after closing.bank)
@@ -148,14 +162,14 @@ module _ (terms : Terms) {B P : Type 0} (Asks : Items Request) (begins : List Hi
         opened = (view opening.bank).moment;
         opening = λ t. opening_later (view bank) (view opening.bank) (view closing.bank) (passes t) (opening_read (view bank) (view opening.bank) (read t));
         session = whole_call;
-        rests = owed_by_fault terms told texts (begins found) (whole_call.told ++ whole_call.untold) (journal_faults bank) (journal_faults closing.bank) (ap (λ (w : World). w.due) (at_new found)) (ap (λ (w : World). w.owed) (at_new found)) whole_call.run whole_call.journal_counted;
-        acknowledged = all_held terms Asks Settled told budget (view closing.bank) earlier (seen_after closing.bank) (begins found) marks status whole_call;
-        output = session_output terms Asks Settled told budget (view closing.bank) earlier (seen_after closing.bank) (begins found) (ap (λ (w : World). w.due) (at_new found)) marks status whole_call;
+        rests = owed_by_fault terms told texts (begins found) (whole_call.told ++ whole_call.untold) (journal_faults bank) (journal_faults closing.bank) rest.0 rest.1 whole_call.run whole_call.journal_counted;
+        acknowledged = all_held terms Asks Settled told budget (view closing.bank) earlier (seen_after closing.bank) (begins found) marks status whole_call (λ t. ap (λ (w : World). w.base.steps) (at_found found) ∙ found_first terms told before found is_found);
+        output = session_output terms Asks Settled told budget (view closing.bank) earlier (seen_after closing.bank) (begins found) rest.0 marks status whole_call;
       }
 
   -- The same, by what the parts of the call say.
-  pub handed : (found : List HistoryStep) × IsFound terms told before found × StandsFor terms told view opening (new_world terms found)
-      → ((found : List HistoryStep) → StandsFor terms told view opening (new_world terms found) → StandsAt terms told view opening own_moment clock (begins found)) → (IsTrue told → OnlyRead (view bank) (view opening.bank))
+  pub handed : (found : World) × IsFound terms told before found × StandsFor terms told view opening found
+      → ((found : World) → StandsFor terms told view opening found → StandsAt terms told view opening own_moment clock (begins found)) → (IsTrue told → OnlyRead (view bank) (view opening.bank))
       → (IsTrue told → IsSettled terms (view bank) before) → (IsTrue told → IsSound (view closing.bank)) → faults bank ≤ faults opening.bank → journal_faults bank ≤ journal_faults opening.bank
       → (budget budget' : ℕ) (bank' : B) (marks marks' : List Mark) (status status' : ℕ)
       → ((stage : Stage) → StandsAt terms told view opening own_moment clock stage → IsTrue told → Passes (view opening.bank) (view closing.bank))
@@ -191,18 +205,18 @@ module _ (terms : Terms) (told : Bool) (budget : ℕ) (entry store : View) (old 
   Settles stage = IsTrue told → IsSettledAs terms store stage.world
 
   -- What a run of lines wrote.
-  pub with_whole : IsAnswered terms asks_of (stage_of terms) told budget entry store old new before marks status
-      → (answered : IsAnswered terms asks_of (stage_of terms) told budget entry store old new before marks status) × WritesWhole terms told budget old new answered.found status
-  with_whole a = (a, whole_output terms Settles told budget store (record old { moment = a.opened }) new (stage_of terms a.found) refl marks status a.session)
+  pub with_whole : IsAnswered terms asks_of stage_of told budget entry store old new before marks status
+      → (answered : IsAnswered terms asks_of stage_of told budget entry store old new before marks status) × WritesWhole terms told budget old new answered.found status
+  with_whole a = (a, whole_output terms Settles told budget store (record old { moment = a.opened }) new (stage_of a.found) (found_open terms told before a.found a.is_found).0 marks status a.session)
 
   -- The causes of the status of a run of lines whose store was opened.
   pub answered_status : (tells : Bool) (journal : Content) → (IsTrue tells → (found : List HistoryStep) × HoldsHistory terms journal found)
-      → IsAnswered terms asks_of (stage_of terms) told budget entry store old new before marks status → HasStatus terms tells journal budget old new status
+      → IsAnswered terms asks_of stage_of told budget entry store old new before marks status → HasStatus terms tells journal budget old new status
   answered_status tells journal holds a = status_at terms tells journal budget old new a.opened status
-      (session_status terms Settles told budget store (record old { moment = a.opened }) new (stage_of terms a.found) refl marks status a.session tells journal
+      (session_status terms Settles told budget store (record old { moment = a.opened }) new (stage_of a.found) (found_open terms told before a.found a.is_found).0 marks status a.session tells journal
       (λ t place bad. not_bad_journal terms journal (holds t).0 place (holds t).1 bad))
 
   -- No call over words that are a form ends with status 1.
   pub never_one : (tells : Bool) → IsOutcome terms told tells budget entry store old new before marks status → status ≡ 1 → ⊥
-  never_one tells (inl a) h = session_exits terms Settles told budget store (record old { moment = a.0.opened }) new (stage_of terms a.0.found) refl marks status a.0.session (inl h)
+  never_one tells (inl a) h = session_exits terms Settles told budget store (record old { moment = a.0.opened }) new (stage_of a.0.found) (found_open terms told before a.0.found a.0.is_found).0 marks status a.0.session (inl h)
   never_one tells (inr r) h = refusal_exits terms old new tells (entry.content 0) status r.0.refusal h

@@ -16,8 +16,8 @@ use Rattle.site_events.specs.declared.reply.LineRefusal.{LineRefusal}
 use Rattle.site_events.specs.declared.reply.LineRefusal.TheVariants.{NotACommand}
 use Rattle.configuration.specs.FolderTexts.{AreRead}
 use Rattle.site_history.specs.Terms.{Terms}
-use Rattle.site_history.specs.Steps.{HistoryStep}
-use Rattle.site_history.specs.Worlds.{World, at, with_step, Turn, TurnBy, EventTurn, EventTurnBy, Course, answer_in, moment_of, IsReply}
+use Rattle.site_history.specs.Worlds.{World}
+use Rattle.site_history.specs.Turns.{Turn, TurnBy, EventTurn, EventTurnBy, Course, answer_in, answered_in, moment_of, IsReply}
 use Rattle.session.specs.Requests.{Request}
 use Rattle.session.specs.Rounds.{Stage, Round, Answers, IsEvent, IsMovedTo, IsRoundOf, IsRun, GoOn, asked, output, cause_of, faults_of, folder_faults_of, is_as_defined, is_known, is_told, calm}
 use Rattle.session.specs.Machine.{Told, moment_told, moments_then, event_told, event_tells, moved_to, machine_tells, machine_run, texts_told, AreTold, output_of}
@@ -33,14 +33,14 @@ line_reply false _ reply other e = e
 abbrev IsToldBy : Bool → Told → Reply → Stage → Type 0
 IsToldBy told t reply stage' = IsReply told t.reply reply × (stage' ≡ t.after)
 
-calm_turn : (terms : Terms) (told : Bool) (history : List HistoryStep) (event : Event) (moment area : ℕ) (reply : Reply) (w' : World) → Turn terms told history event moment area reply w' → is_as_defined reply ≡ true
-    → IsReply told (answer_in terms history moment event).reply reply × (w' ≡ at (with_step history (answer_in terms history moment event).step) moment)
-calm_turn terms told history event moment area reply w' turn calm =
-    subst (λ (c : Course). TurnBy c told (answer_in terms history moment event) history moment reply w') (calm_goes reply area calm) turn
+calm_turn : (terms : Terms) (told : Bool) (w : World) (event : Event) (moment area : ℕ) (reply : Reply) (w' : World) → Turn terms told w event moment area reply w' → is_as_defined reply ≡ true
+    → IsReply told (answer_in terms w moment event).reply reply × (w' ≡ answered_in (answer_in terms w moment event) moment w)
+calm_turn terms told w event moment area reply w' turn calm =
+    subst (λ (c : Course). TurnBy c told (answer_in terms w moment event) w event moment reply w') (calm_goes reply area calm) turn
 
 -- Where no reopening is due, an event is a turn.
 pub turn_at_rest : (terms : Terms) (told : Bool) (w : World) (event : Event) (now area : ℕ) (journal : Content) (reply : Reply) (w' : World) → w.due ≡ false → EventTurn terms told w event now area journal reply w'
-    → Turn terms told w.history event (moment_of w.clock now) area reply w'
+    → Turn terms told w event (moment_of w.clock now) area reply w'
 turn_at_rest terms told w event now area journal reply w' rest turn = subst (λ (due : Bool). EventTurnBy terms due told w event now area journal reply w') rest turn
 
 -- A clock that tells its moments gives the next one.
@@ -65,11 +65,11 @@ calm_event : (terms : Terms) (told : Bool) (stage : Stage) (event : Event) (area
     → is_as_defined reply ≡ true → IsToldBy told (event_tells terms stage event) reply stage'
 calm_event terms told stage event area journal reply stage' rest known turn calm =
     let given = gives_told stage.moments stage'.moments turn.0 known turn.1 in
-    let t = calm_turn terms told stage.world.history event (moment_of stage.world.clock turn.0) area reply stage'.world (turn_at_rest terms told stage.world event turn.0 area journal reply stage'.world rest turn.2) calm in
-    subst (λ (n : ℕ). IsToldBy told (event_told stage.world (moments_then stage.moments) (moment_of stage.world.clock n) (answer_in terms stage.world.history (moment_of stage.world.clock n) event)) reply stage') given.0 (
+    let t = calm_turn terms told stage.world event (moment_of stage.world.clock turn.0) area reply stage'.world (turn_at_rest terms told stage.world event turn.0 area journal reply stage'.world rest turn.2) calm in
+    subst (λ (n : ℕ). IsToldBy told (event_told stage.world (moments_then stage.moments) (moment_of stage.world.clock n) (answer_in terms stage.world (moment_of stage.world.clock n) event)) reply stage') given.0 (
       t.0,
       ap (λ (x : World). let s : Stage = record { world = x; moments = stage'.moments } in s) t.1
-          ∙ ap (λ (ms : Option (List ℕ)). let s : Stage = record { world = at (with_step stage.world.history (answer_in terms stage.world.history (moment_of stage.world.clock turn.0) event).step) (moment_of stage.world.clock turn.0); moments = ms } in s) given.1,
+          ∙ ap (λ (ms : Option (List ℕ)). let s : Stage = record { world = answered_in (answer_in terms stage.world (moment_of stage.world.clock turn.0) event) (moment_of stage.world.clock turn.0) stage.world; moments = ms } in s) given.1,
     )
 
 calm_moved : (told : Bool) (stage : Stage) (moment : ℕ) (reply : Reply) (stage' : Stage) → is_known stage.moments ≡ true → IsMovedTo moment stage reply stage' → IsToldBy told (moved_to stage (max moment (moment_told stage.moments))) reply stage'
@@ -128,7 +128,7 @@ fixed_round terms told folder stage demand area journal reply stage' rest round 
 event_settled : (terms : Terms) (told : Bool) (stage : Stage) (event : Event) (area : ℕ) (journal : Content) (reply : Reply) (stage' : Stage) → stage.world.due ≡ false → IsEvent terms told stage event area journal reply stage' → is_as_defined reply ≡ true
     → stage'.world.due ≡ false
 event_settled terms told stage event area journal reply stage' rest turn calm =
-    ap (λ (x : World). x.due) (calm_turn terms told stage.world.history event (moment_of stage.world.clock turn.0) area reply stage'.world (turn_at_rest terms told stage.world event turn.0 area journal reply stage'.world rest turn.2) calm).1
+    ap (λ (x : World). x.due) (calm_turn terms told stage.world event (moment_of stage.world.clock turn.0) area reply stage'.world (turn_at_rest terms told stage.world event turn.0 area journal reply stage'.world rest turn.2) calm).1 ∙ rest
 
 stays_settled : (stage stage' : Stage) → stage' ≡ stage → stage.world.due ≡ false → stage'.world.due ≡ false
 stays_settled stage stage' e rest = ap (λ (s : Stage). s.world.due) e ∙ rest
@@ -186,7 +186,7 @@ answers_cause defined stage reply stage' none (inr e, same) = inr (inr (ap cause
 
 event_cause : (terms : Terms) (told : Bool) (stage : Stage) (event : Event) (area : ℕ) (journal : Content) (reply : Reply) (stage' : Stage) → stage.world.due ≡ false → IsEvent terms told stage event area journal reply stage' → CauseOf reply
 event_cause terms told stage event area journal reply stage' rest turn =
-    turn_cause terms told stage.world.history event (moment_of stage.world.clock turn.0) area reply stage'.world (turn_at_rest terms told stage.world event turn.0 area journal reply stage'.world rest turn.2)
+    turn_cause terms told stage.world event (moment_of stage.world.clock turn.0) area reply stage'.world (turn_at_rest terms told stage.world event turn.0 area journal reply stage'.world rest turn.2)
 
 asked_cause : (terms : Terms) (told : Bool) (folder : Option (List NamedText)) (stage : Stage) (asked : Asked) (area : ℕ) (journal : Content) (reply : Reply) (stage' : Stage) → stage.world.due ≡ false
     → IsRoundOf terms told folder stage (Ok asked) area journal reply stage' → CauseOf reply

@@ -6,7 +6,7 @@ use Rattle.bank.specs.Content.{Image}
 use Rattle.bank.specs.View.{View, IsSound}
 use Rattle.site_events.specs.declared.reply.Reply.{Reply}
 use Rattle.site_history.specs.Terms.{Terms}
-use Rattle.site_history.specs.Worlds.{World}
+use Rattle.site_history.specs.Worlds.{World, steps_of}
 use Rattle.site_history.specs.Images.{ReadsAs}
 use Rattle.engine.specs.declared.kept.Engine.{Engine}
 use Rattle.engine.specs.StandsFor.{StandsFor}
@@ -32,7 +32,7 @@ pub made : (terms : Terms) → {B P : Type 0} (told : Bool) (view : B → View) 
     × AreCounted folder_faults (folder_faults_of reply) folder_faults'
     → status' ≡ first_of status (cause_of reply) → AreCounted bank_faults (faults_of reply) bank_faults'
     → AreCounted journal_faults (journal_faults_of reply last_fault) journal_faults'
-    → mid ≡ marks → mark.answered ≡ length mid + 1 → ((w : World) → StandsFor terms told view engine' w → mark.steps ≡ length w.history) → (IsTrue told → mark.moment ≡ (view engine'.bank).moment)
+    → mid ≡ marks → mark.answered ≡ length mid + 1 → ((w : World) → StandsFor terms told view engine' w → mark.steps ≡ steps_of w) → (IsTrue told → mark.moment ≡ (view engine'.bank).moment)
     → request.text reply ≡ text → request.closes reply ≡ closes → Tells written written' faults faults' mid marks' end text closes mark
     → (round : Round) × IsRound terms (StandsAt terms told view engine' own_moment' clock') told folder (view engine.bank) (view engine'.bank) stage request
     written written' faults faults' folder_faults folder_faults' bank_faults bank_faults' journal_faults journal_faults' last_fault marks marks' status status' end round
@@ -41,16 +41,16 @@ made terms told view engine engine' own_moment' clock' folder stage request repl
   record {
     same = refl;
     turn = turn.1;
-    stands = record { world = turn.2.world.stands; moments = turn.2.moments };
+    stands = record { world = turn.2.world; moments = turn.2.moments };
     first_cause = cause;
     counted = counted;
     area = refl;
     journal_counted = journal_counted;
-    journal_stood = λ t. ((view engine.bank).content, reads_since _ _ _ (sound_before t) (turn.2.world.moments t), refl);
+    journal_stood = λ t. ((view engine.bank).content, reads_since _ _ _ (sound_before t) (turn.2.meanwhile t), refl);
     folder_counted = turn.3;
     moment = at_moment;
-    meanwhile = turn.2.world.moments;
-    since = images_since terms told view engine' turn.0.world sound turn.2.world.stands;
+    meanwhile = turn.2.meanwhile;
+    since = images_since terms told view engine' turn.0.world sound turn.2.world;
     tells_answer = subst (λ (ms : List Mark). Tells written written' faults faults' ms marks' end (request.text reply) (request.closes reply) (mark_of (length ms + 1) (record { request = request; reply = reply; after = turn.0; area = last_fault; journal = (view engine.bank).content 0; moment = mark.moment }))) same
         (subst (λ (m : Mark). Tells written written' faults faults' mid marks' end (request.text reply) (request.closes reply) m) same_mark
         (subst (λ (t : List ℕ). Tells written written' faults faults' mid marks' end t (request.closes reply) mark) (sym is_text)
@@ -60,4 +60,4 @@ made terms told view engine engine' own_moment' clock' folder stage request repl
   where
     same_mark : mark ≡ mark_of (length mid + 1) (record { request = request; reply = reply; after = turn.0; area = last_fault; journal = (view engine.bank).content 0; moment = mark.moment })
     same_mark = ap (λ (n : ℕ). let m : Mark = record { answered = n; steps = mark.steps; moment = mark.moment } in m) answered
-        ∙ ap (λ (n : ℕ). let m : Mark = record { answered = length mid + 1; steps = n; moment = mark.moment } in m) (steps turn.0.world turn.2.world.stands)
+        ∙ ap (λ (n : ℕ). let m : Mark = record { answered = length mid + 1; steps = n; moment = mark.moment } in m) (steps turn.0.world turn.2.world)

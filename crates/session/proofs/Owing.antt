@@ -12,9 +12,9 @@ use Rattle.site_events.specs.declared.reply.LineRefusal.{LineRefusal}
 use Rattle.site_events.specs.declared.reply.Reply.{Reply}
 use Rattle.site_events.specs.declared.reply.Reply.TheVariants.{BankFault, NoMemory}
 use Rattle.site_history.specs.Terms.{Terms}
-use Rattle.site_history.specs.Steps.{HistoryStep}
 use Rattle.site_history.specs.Replies.{Answer}
-use Rattle.site_history.specs.Worlds.{World, Turn, TurnBy, Owes, Stays, answer_in, moment_of}
+use Rattle.site_history.specs.Worlds.{World, at_moment}
+use Rattle.site_history.specs.Turns.{Turn, TurnBy, Owes, Fails, answer_in, answered_in, failed_in, moment_of}
 use Rattle.session.specs.Rounds.{Stage, Round, IsEvent, IsRoundOf, IsRun, stage_after, journal_faults_of, journal_faults_in}
 use Rattle.session.proofs.MachineLaws.{turn_at_rest}
 
@@ -26,21 +26,21 @@ rests_alike : (w w' : World) → w' ≡ w → Rests w → Rests w'
 rests_alike w w' e h = (ap (λ (x : World). x.due) e ∙ h.0, ap (λ (x : World). x.owed) e ∙ h.1)
 
 -- A fault of the store elsewhere leaves nothing open.
-fault_elsewhere : (in_journal told : Bool) (answer : Answer) (history : List HistoryStep) (moment : ℕ) (w' : World) → TurnBy (if in_journal then Owes else Stays) told answer history moment BankFault w'
+fault_elsewhere : (in_journal told : Bool) (answer : Answer) (w : World) (event : Event) (moment : ℕ) (w' : World) → Rests w → TurnBy (if in_journal then Owes else Fails) told answer w event moment BankFault w'
     → ◌≡◌ {A = ℕ} (if in_journal then 1 else 0) 0 → Rests w'
-fault_elsewhere true told answer history moment w' turn none = absurd (omega (arith, none))
-fault_elsewhere false told answer history moment w' turn none = (ap (λ (x : World). x.due) turn, ap (λ (x : World). x.owed) turn)
+fault_elsewhere true told answer w event moment w' rest turn none = absurd (omega (arith, none))
+fault_elsewhere false told answer w event moment w' rest turn none = rests_alike (failed_in event moment w) w' turn rest
 
-turn_rests : (terms : Terms) (told : Bool) (history : List HistoryStep) (event : Event) (moment area : ℕ) (reply : Reply) (w' : World) → Turn terms told history event moment area reply w'
+turn_rests : (terms : Terms) (told : Bool) (w : World) (event : Event) (moment area : ℕ) (reply : Reply) (w' : World) → Rests w → Turn terms told w event moment area reply w'
     → journal_faults_of reply area ≡ 0 → Rests w'
-turn_rests terms told history event moment area BankFault w' turn none = fault_elsewhere (area == 0) told (answer_in terms history moment event) history moment w' turn none
-turn_rests terms told history event moment area NoMemory w' turn none = (ap (λ (x : World). x.due) turn, ap (λ (x : World). x.owed) turn)
-turn_rests terms told history event moment area _ w' turn none = (ap (λ (x : World). x.due) turn.1, ap (λ (x : World). x.owed) turn.1)
+turn_rests terms told w event moment area BankFault w' rest turn none = fault_elsewhere (area == 0) told (answer_in terms w moment event) w event moment w' rest turn none
+turn_rests terms told w event moment area NoMemory w' rest turn none = rests_alike (at_moment moment w) w' turn rest
+turn_rests terms told w event moment area _ w' rest turn none = rests_alike (answered_in (answer_in terms w moment event) moment w) w' turn.1 rest
 
 event_rests : (terms : Terms) (told : Bool) (stage : Stage) (event : Event) (area : ℕ) (journal : Content) (reply : Reply) (stage' : Stage) → Rests stage.world
     → IsEvent terms told stage event area journal reply stage' → journal_faults_of reply area ≡ 0 → Rests stage'.world
 event_rests terms told stage event area journal reply stage' rest turn none =
-    turn_rests terms told stage.world.history event (moment_of stage.world.clock turn.0) area reply stage'.world (turn_at_rest terms told stage.world event turn.0 area journal reply stage'.world rest.0 turn.2) none
+    turn_rests terms told stage.world event (moment_of stage.world.clock turn.0) area reply stage'.world rest (turn_at_rest terms told stage.world event turn.0 area journal reply stage'.world rest.0 turn.2) none
 
 stage_rests : (stage stage' : Stage) → stage' ≡ stage → Rests stage.world → Rests stage'.world
 stage_rests stage stage' e rest = rests_alike stage.world stage'.world (ap (λ (s : Stage). s.world) e) rest

@@ -1,9 +1,10 @@
 -- What a crash at any moment leaves.
-use Rattle.std.specs.Prelude.{◌≡◌, ◌⊎◌, ◌≤◌, ℕ, List, [], ◌∷◌, ◌++◌, take}
+use Rattle.std.specs.Prelude.{◌⊎◌, ◌≤◌, ℕ, List, [], ◌∷◌, take}
 use Rattle.bank.specs.Content.{Image}
 use Rattle.bank.specs.View.{View, IsImage, LeavesOnly}
 use Rattle.site_history.specs.Terms.{Terms}
 use Rattle.site_history.specs.Steps.{HistoryStep}
+use Rattle.site_history.specs.Histories.{Begins}
 use Rattle.site_history.specs.Worlds.{World}
 use Rattle.site_history.specs.Images.{Reads, ReadsAs}
 use Rattle.session.specs.Rounds.{Round}
@@ -18,15 +19,11 @@ AreKept terms v from w (round ∷ rounds) =
     ((c : Image) → v.left_since from c → v.left_since round.moment c ⊎ (ReadsAs terms w c ⊎ ReadsAs terms round.after.world c))
     × AreKept terms v round.moment round.after.world rounds
 
--- a list of steps begins with these
-abbrev pub BeginsWith : List HistoryStep → List HistoryStep → Type 0
-BeginsWith front steps = (more : List HistoryStep) × (steps ≡ front ++ more)
-
 -- Each step that was acknowledged is held: whatever a crash left since the moment of a mark reads as a history that begins with
 -- the first steps of the last history, as many as the mark counts.
 abbrev pub AreHeld : Terms → View → List HistoryStep → List Mark → Type 0
 AreHeld terms v last [] = Unit {0}
-AreHeld terms v last (mark ∷ marks) = ((c : Image) → v.left_since mark.moment c → (steps : List HistoryStep) × Reads terms c steps × BeginsWith (take mark.steps last) steps) × AreHeld terms v last marks
+AreHeld terms v last (mark ∷ marks) = ((c : Image) → v.left_since mark.moment c → (steps : List HistoryStep) × Reads terms c steps × Begins (take mark.steps last) steps) × AreHeld terms v last marks
 
 -- An image that a crash left while the store was opened is one that it might have left at entry; any other is one since it was open.
 pub record IsOpening (entry v : View) (opened : ℕ) : Type 0 where

@@ -15,7 +15,8 @@ use Rattle.configuration.specs.FolderTexts.{texts_in}
 use Rattle.site_types.specs.Texts.{no_texts}
 use Rattle.site_history.specs.Terms.{Terms}
 use Rattle.site_history.specs.Replies.{Answer}
-use Rattle.site_history.specs.Worlds.{World, at, moment_of, answer_in, with_step, IsReply}
+use Rattle.site_history.specs.Worlds.{World}
+use Rattle.site_history.specs.Turns.{moment_of, answer_in, answered_in, IsReply}
 use Rattle.session.specs.Requests.{Request}
 use Rattle.session.specs.Rounds.{Stage, Round, own}
 
@@ -35,12 +36,12 @@ moments_then None = None
 moments_then (Some moments) = Some (moments_after moments)
 
 abbrev pub event_told : World → Option (List ℕ) → ℕ → Answer → Told
-event_told w moments moment answer = record { reply = answer.reply; after = record { world = at (with_step w.history answer.step) moment; moments = moments } }
+event_told w moments moment answer = record { reply = answer.reply; after = record { world = answered_in answer moment w; moments = moments } }
 
 -- what the machine tells to an event
 abbrev pub event_tells : Terms → Stage → Event → Told
 event_tells terms stage event = let moment = moment_of stage.world.clock (moment_told stage.moments) in
-    event_told stage.world (moments_then stage.moments) moment (answer_in terms stage.world.history moment event)
+    event_told stage.world (moments_then stage.moments) moment (answer_in terms stage.world moment event)
 
 -- the session has a moment of its own from then on
 abbrev pub moved_to : Stage → ℕ → Told

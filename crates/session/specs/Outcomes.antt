@@ -10,7 +10,8 @@ use Rattle.site_events.specs.declared.reply.Reply.TheVariants.{BadJournal}
 use Rattle.desk.specs.Texts.{text_of}
 use Rattle.site_history.specs.Terms.{Terms}
 use Rattle.site_history.specs.Steps.{HistoryStep}
-use Rattle.site_history.specs.Worlds.{new_world, IsFound}
+use Rattle.site_history.specs.Worlds.{World}
+use Rattle.site_history.specs.Turns.{IsFound}
 use Rattle.site_history.specs.Images.{IsSettled, IsSettledAs}
 use Rattle.site_history.specs.Journals.{IsBadJournal}
 use Rattle.input.specs.Reading.{Items}
@@ -30,9 +31,9 @@ journal_bytes = 268435456
 abbrev pub run_terms : (List ℕ → List ℕ → Bool) → Terms
 run_terms finds = record { size = journal_bytes; finds = finds }
 
--- a run of lines over a site of this history begins at the moment of its last step, which is its own until `at` moves it on
-abbrev pub stage_of : Terms → List HistoryStep → Stage
-stage_of terms history = record { world = new_world terms history; moments = own (new_world terms history).clock }
+-- a run of lines in a world begins at the clock's moment, which is its own until `at` moves it on
+abbrev pub stage_of : World → Stage
+stage_of w = record { world = w; moments = own w.clock }
 
 -- why nothing was asked: a fault of the store, want of memory, or a bad journal, which is told with its place
 abbrev pub Refusal : Terms → Outside → Outside → Bool → Content → ℕ → Type 0
@@ -54,9 +55,10 @@ pub record IsRefused (terms : Terms) (tells : Bool) (entry store : View) (old ne
   pub only_read : IsTrue tells → OnlyRead entry store
 
 -- The store was opened, and a session followed. At its end the store is settled for the last world: for its history, or for
--- that with the step that is owed. `Asks` is what a text asks, and `begins` where a session over a site of a history begins.
-pub record IsAnswered (terms : Terms) (Asks : Items Request) (begins : List HistoryStep → Stage) (tells : Bool) (budget : ℕ) (entry store : View) (old new : Outside) (before : List HistoryStep) (marks : List Mark) (status : ℕ) : Type 0 where
-  pub found : List HistoryStep
+-- that with the step that is owed. `Asks` is what a text asks, and `begins` where a session in a world begins.
+pub record IsAnswered (terms : Terms) (Asks : Items Request) (begins : World → Stage) (tells : Bool) (budget : ℕ) (entry store : View) (old new : Outside) (before : List HistoryStep) (marks : List Mark) (status : ℕ) : Type 0 where
+  -- the world that the store was opened with
+  pub found : World
   pub is_found : IsFound terms tells before found
   -- the moment at which it was open
   pub opened : ℕ
@@ -71,19 +73,19 @@ pub record IsAnswered (terms : Terms) (Asks : Items Request) (begins : List Hist
   pub output : IsTrue tells → status ≡ 0 → IsTrue (list_all (λ (request : Request). is_told old.folder (begins found).moments request.asked) (asked (session.told ++ session.untold)))
       → Appends old.written new.written (output_of terms (texts_told old.folder) (begins found) (Asks session.read session.met_end))
 
--- Of a run of lines over this history: with status 0 what was written is the machine's output for all that was read. That is
+-- Of a run of lines in this world: with status 0 what was written is the machine's output for all that was read. That is
 -- fixed but where `configure` was asked and the folder tells nothing.
-abbrev pub WritesWhole : Terms → Bool → ℕ → Outside → Outside → List HistoryStep → ℕ → Type 0
+abbrev pub WritesWhole : Terms → Bool → ℕ → Outside → Outside → World → ℕ → Type 0
 WritesWhole terms tells budget old new found status = IsTrue tells → status ≡ 0 → IfSome old.left (λ bytes. (length bytes ≤ budget)
-    × (IsTrue (list_all (λ (request : Request). is_told old.folder (stage_of terms found).moments request.asked) (asks_of bytes true))
-    → Appends old.written new.written (output_of terms (texts_told old.folder) (stage_of terms found) (asks_of bytes true))))
+    × (IsTrue (list_all (λ (request : Request). is_told old.folder (stage_of found).moments request.asked) (asks_of bytes true))
+    → Appends old.written new.written (output_of terms (texts_told old.folder) (stage_of found) (asks_of bytes true))))
 
 -- What a call does that answers lines; `tells` is whether the store tells its content. Where `told` that is made use of: the store
 -- was then settled for this history before the call. It was opened, and a session followed; or it was refused, and is as settled as
 -- before.
 abbrev pub IsOutcome : Terms → Bool → Bool → ℕ → View → View → Outside → Outside → List HistoryStep → List Mark → ℕ → Type 0
 IsOutcome terms told tells budget entry store old new before marks status =
-    ((answered : IsAnswered terms asks_of (stage_of terms) told budget entry store old new before marks status) × WritesWhole terms told budget old new answered.found status)
+    ((answered : IsAnswered terms asks_of stage_of told budget entry store old new before marks status) × WritesWhole terms told budget old new answered.found status)
     ⊎ (IsRefused terms tells entry store old new marks status × (IsTrue told → IsSettled terms store before))
 
 -- The causes of a status, over any store, and what the statuses 0 and 7 mean. `journal` is what stands in the journal's area.

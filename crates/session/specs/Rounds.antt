@@ -15,7 +15,8 @@ use Rattle.site_events.specs.declared.reply.Reply.{Reply}
 use Rattle.site_events.specs.declared.reply.Reply.TheVariants.{Line, At, BankFault, FolderFault, BadJournal, NoMemory}
 use Rattle.configuration.specs.FolderTexts.{AreRead}
 use Rattle.site_history.specs.Terms.{Terms}
-use Rattle.site_history.specs.Worlds.{World, EventTurn}
+use Rattle.site_history.specs.Worlds.{World, steps_of}
+use Rattle.site_history.specs.Turns.{EventTurn}
 use Rattle.session.specs.Requests.{Request}
 use Rattle.session.specs.declared.kept.Mark.{Mark}
 
@@ -94,9 +95,9 @@ abbrev pub AreInTime : ℕ → List Round → ℕ → Type 0
 AreInTime from [] to = from ≤ to
 AreInTime from (round ∷ rounds) to = (from ≤ round.moment) × AreInTime round.moment rounds to
 
--- the mark of an answer: how many there are with it, the length of the history after its round, and the store's moment then
+-- the mark of an answer: how many there are with it, how many steps the world has after its round, and the store's moment then
 abbrev pub mark_of : ℕ → Round → Mark
-mark_of answered round = record { answered = answered; steps = length round.after.world.history; moment = round.moment }
+mark_of answered round = record { answered = answered; steps = steps_of round.after.world; moment = round.moment }
 
 -- one mark for each round
 abbrev pub marks_from : ℕ → List Round → List Mark

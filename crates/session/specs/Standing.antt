@@ -1,8 +1,9 @@
 -- Where a session stands, and how a round moves it.
-use Rattle.std.specs.Prelude.{◌≡◌, ℕ, List, Bool, Option}
-use Rattle.bank.specs.View.{View}
+use Rattle.std.specs.Prelude.{◌≡◌, ◌⊎◌, ℕ, List, Bool, IsTrue, Option}
+use Rattle.bank.specs.View.{View, LeavesOnly}
 use Rattle.engine.specs.declared.kept.Engine.{Engine}
-use Rattle.engine.specs.StandsFor.{StandsFor, Moves}
+use Rattle.engine.specs.StandsFor.{StandsFor}
+use Rattle.site_history.specs.Images.{ReadsAs}
 use Rattle.session.specs.Rounds.{Stage, moments_of}
 use Rattle.site_history.specs.Terms.{Terms}
 
@@ -12,7 +13,9 @@ pub record StandsAt (terms : Terms) {B P : Type 0} (told : Bool) (view : B → V
   pub world : StandsFor terms told view engine stage.world
   pub moments : stage.moments ≡ moments_of own_moment clock
 
--- From a stage the engine was moved to the world of another, and the moments then to come are that stage's.
+-- From a stage the engine was moved to the world of another, and the moments then to come are that stage's. Each image meanwhile
+-- reads as the one world or as the other.
 pub record IsMoved (terms : Terms) {B P : Type 0} (told : Bool) (view : B → View) (old new : Engine B P) (own_moment : Option ℕ) (clock : Option (List ℕ)) (stage stage' : Stage) : Type 0 where
-  pub world : Moves terms told view old new stage.world stage'.world
+  pub world : StandsFor terms told view new stage'.world
+  pub meanwhile : IsTrue told → LeavesOnly (view old.bank) (view new.bank) (λ c. ReadsAs terms stage.world c ⊎ ReadsAs terms stage'.world c)
   pub moments : stage'.moments ≡ moments_of own_moment clock

@@ -5,7 +5,7 @@ ghost use Rattle.site_history.specs.Terms.{Terms};
 ghost use Rattle.base.specs.Causes.{AreCounted};
 ghost use Rattle.site_events.specs.declared.event.Asked.{Asked as AskedOf};
 ghost use Rattle.site_events.specs.declared.reply.LineRefusal.{LineRefusal as RefusalOf};
-ghost use Rattle.site_history.specs.Worlds.{World};
+ghost use Rattle.site_history.specs.Worlds.{World, steps_of};
 ghost use Rattle.engine.specs.StandsFor.{StandsFor};
 ghost use Rattle.session.specs.Requests.{Request, reply_to};
 ghost use Rattle.session.specs.Hearing.{IsReadAs, IsHeardAs};
@@ -176,7 +176,7 @@ fn answer<B: Bank, P: Drop, F: Folder, C: Clock>(
 /// The mark of the next answer.
 fn next_mark<B: Bank, P: Drop>(session: &Session<B, P>) -> Mark
     ensures answered { result.answered ≡ length session.now.marks.items + 1 }
-    ensures steps { (terms : Terms) (told : Bool) (w : World) → StandsFor terms told B.view session.now.engine w → result.steps ≡ length w.history }
+    ensures steps { (terms : Terms) (told : Bool) (w : World) → StandsFor terms told B.view session.now.engine w → result.steps ≡ steps_of w }
     ensures moment { IsTrue B.tells → result.moment ≡ (B.view session.now.engine.bank).moment }
 {
     Mark {
