@@ -148,9 +148,9 @@ module _ (terms : Terms) {B P : Type 0} (Asks : Items Request) (begins : World �
       → IsAnswered terms Asks begins told budget (view bank) (view closing.bank) seen_before (seen_after closing.bank) before marks status
   answered found budget marks status is_found read settled sound fewer fewer_journal passes session =
       let Settled : Stage → Type 0 = λ stage. IsTrue told → IsSettledAs terms (view closing.bank) stage.world in
-      let open = found_open terms told before found is_found in
+      let nothing_open = found_open terms told before found is_found in
       let rest : ((begins found).world.due ≡ false) × ((begins found).world.owed ≡ None) =
-      (ap (λ (w : World). w.due) (at_found found) ∙ open.0, ap (λ (w : World). w.owed) (at_found found) ∙ open.1) in
+      (ap (λ (w : World). w.due) (at_found found) ∙ nothing_open.0, ap (λ (w : World). w.owed) (at_found found) ∙ nothing_open.1) in
       let earlier : Outside = record seen_open { bank_faults = faults bank; journal_faults = journal_faults bank; last_fault = last_fault bank } in
       let whole_call : IsSession terms Asks Settled told budget (view closing.bank) earlier (seen_after closing.bank) (begins found) marks status =
       counted_earlier terms Asks (StandsAt terms told view closing own_moment' clock') Settled told budget (view closing.bank) seen_open (seen_after closing.bank)

@@ -1,5 +1,5 @@
 -- What a crash leaves holds each step that was acknowledged.
-use Rattle.std.proofs.Common.{◌≡◌, ◌⊎◌, inl, inr, ℕ, ◌+◌, List, [], ◌∷◌, ◌++◌, length, take, refl, sym, ◌∙◌, ap, subst, Bool, true, false, Option, Some, None, Result, Ok, Err, append_assoc}
+use Rattle.std.proofs.Common.{◌≡◌, ◌⊎◌, inl, inr, ℕ, ◌+◌, List, [], ◌∷◌, ◌++◌, length, take, refl, sym, ◌∙◌, ap, subst, arith, Bool, true, false, Option, Some, None, Result, Ok, Err, append_assoc}
 use Rattle.std.proofs.lemmas.List.{append-nil}
 use Rattle.std.proofs.Math.Seq.{take-append_seam}
 use Rattle.outside.specs.declared.folder.NamedText.{NamedText}
@@ -126,7 +126,9 @@ since_begins terms folder v from stage (x ∷ rounds) kept run c left = by_time 
 
 -- The first steps of a history from the first site, as many as led to an earlier world, are that world's.
 front_of : (w : World) (last : List HistoryStep) → w.base.steps ≡ 0 → Begins w.history last → take (steps_of w) last ≡ w.history
-front_of w last first begins = ap (λ (n : ℕ). take (n + length w.history) last) first ∙ ap (λ (l : List HistoryStep). take (length w.history) l) begins.1 ∙ take-append_seam w.history begins.0
+front_of w last first begins =
+    let so_many : steps_of w ≡ length w.history = omega (arith, first) in
+    ap (λ (n : ℕ). take n last) so_many ∙ ap (λ (l : List HistoryStep). take (length w.history) l) begins.1 ∙ take-append_seam w.history begins.0
 
 -- What a crash left since the moment of a mark begins with the steps that the mark counts.
 pub marks_held : (terms : Terms) (folder : Option (List NamedText)) (v : View) (from n : ℕ) (stage : Stage) (told untold : List Round) → stage.world.base.steps ≡ 0 → AreKept terms v from stage.world (told ++ untold) → IsRun terms true folder stage (told ++ untold)

@@ -98,7 +98,7 @@ module _ (terms : Terms) {B P : Type 0} (told : Bool) (view : B → View) (engin
   one_or_other event now area journal reply w' v' false is turn left = absurd (cc)
   one_or_other event now area journal reply w' v' true is turn left =
       weakened (view engine.bank) v' (ReadsBetween terms stage.world w') (λ (c : Image). ReadsAs terms stage.world c ⊎ ReadsAs terms w' c) left
-      (λ c between. event_reads terms stage.world w' c event now area journal reply between (λ open. (stands.world.in_step (stands.world.due ∙ open)).0) turn)
+      (λ c between. event_reads terms stage.world w' c event now area journal reply between (λ at_rest. (stands.world.in_step (stands.world.due ∙ at_rest)).0) turn)
 
   -- An event was served at the moment that was taken.
   pub served : (area : ℕ) (journal : Content) (event : Event) (now : ℕ) (clock' : Option (List ℕ)) (reply : Reply) (engine' : Engine B P) → Gives (moments_of own_moment clock) (moments_of own_moment clock') now
