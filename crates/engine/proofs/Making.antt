@@ -1,6 +1,6 @@
 -- A plan that makes a step: what is known of its step, and what the engine stands for while its bytes are stored and its record is
 -- appended.
-use Rattle.std.proofs.Common.{◌≡◌, inl, ℕ, List, [], ◌∷◌, ◌++◌, length, refl, sym, ◌∙◌, ap, subst, arith, Bool, false, true, Option, Some, None}
+use Rattle.std.proofs.Common.{◌≡◌, inl, ℕ, List, sym, ◌∙◌, ap, subst, arith, Bool, false, true, Option, Some, None}
 use Rattle.std.specs.Prelude.{IsTrue}
 use Rattle.bank.specs.Content.{Image}
 use Rattle.bank.specs.View.{View, IsImage, IsSound, LeavesOnly}
@@ -17,7 +17,7 @@ use Rattle.site_history.specs.Site.{Fields, Site, held_runs}
 use Rattle.site_history.specs.Steps.{HistoryStep, IsLegal, step_extents}
 use Rattle.site_history.specs.Running.{Running, nothing_runs, after_fault}
 use Rattle.site_history.specs.Histories.{after, IsHistory}
-use Rattle.site_history.specs.Worlds.{World, site_of, steps_of, at_moment, made_in, owing_in}
+use Rattle.site_history.specs.Worlds.{World, site_of, steps_of, at_moment}
 use Rattle.site_history.specs.Turns.{failed_in}
 use Rattle.site_history.specs.Answers.{answer_to}
 use Rattle.site_history.specs.Replies.{Answer, makes}

@@ -1,7 +1,7 @@
 -- An event, where a reopening is due and where none is.
 use Rattle.std.proofs.Common.{◌≡◌, ◌⊎◌, inl, inr, ℕ, ◌<◌, ◌≤◌, ◌^◌, refl, sym, ◌∙◌, ap, subst, arith, Bool, true, false}
 use Rattle.std.specs.Prelude.{IsTrue}
-use Rattle.bank.specs.Content.{Content, Image}
+use Rattle.bank.specs.Content.{Content}
 use Rattle.bank.specs.View.{View, IsImage, IsSound, LeavesOnly}
 use Rattle.bank.proofs.Moments.{weakened, joined}
 use Rattle.bank.proofs.Readings.{nothing_read}
@@ -12,7 +12,6 @@ use Rattle.site_types.specs.declared.file.SiteTexts.{SiteTexts}
 use Rattle.site_events.specs.declared.reply.Reply.{Reply}
 use Rattle.site_history.specs.Terms.{Terms}
 use Rattle.site_history.specs.Site.{Fields}
-use Rattle.site_history.specs.Steps.{HistoryStep}
 use Rattle.site_history.specs.Worlds.{World, site_of, at_moment}
 use Rattle.site_history.specs.Turns.{moment_of, Turn, IsReopened, RefusesReopening, EventTurnBy, EventTurn, TellsConfiguration}
 use Rattle.site_history.specs.Images.{ReadsAs, ReadsBetween}

@@ -1,5 +1,5 @@
 -- How an engine that stands for a world with nothing open goes on while an event is served.
-use Rattle.std.proofs.Common.{◌≡◌, ◌⊎◌, inl, ℕ, sym, ◌∙◌, ap, subst, Bool}
+use Rattle.std.proofs.Common.{◌≡◌, inl, sym, ◌∙◌, ap, Bool}
 use Rattle.std.specs.Prelude.{IsTrue}
 use Rattle.bank.specs.Content.{Image}
 use Rattle.bank.specs.View.{View, IsImage, OnlyRead, LeavesOnly}

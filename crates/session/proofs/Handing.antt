@@ -1,5 +1,5 @@
 -- From the session of an engine to the session of a call.
-use Rattle.std.proofs.Common.{◌≡◌, inl, inr, ℕ, ◌≤◌, List, ◌++◌, refl, sym, ◌∙◌, ap, subst, arith, Bool, true, false, Option, Some, None, IsTrue}
+use Rattle.std.proofs.Common.{◌≡◌, inl, inr, ℕ, ◌≤◌, List, ◌++◌, sym, ◌∙◌, ap, subst, arith, Bool, true, false, Option, Some, None, IsTrue}
 use Rattle.outside.specs.declared.folder.NamedText.{NamedText}
 use Rattle.bank.specs.Content.{Content}
 use Rattle.bank.specs.View.{View, IsSound, OnlyRead}
@@ -8,7 +8,7 @@ use Rattle.site_history.specs.Terms.{Terms}
 use Rattle.site_history.specs.Steps.{HistoryStep}
 use Rattle.site_history.specs.Worlds.{Base, World}
 use Rattle.site_history.specs.Turns.{IsFound}
-use Rattle.site_history.specs.Images.{IsSettled, IsSettledAs, ReadsAs}
+use Rattle.site_history.specs.Images.{IsSettled, IsSettledAs}
 use Rattle.site_history.specs.Journals.{HoldsHistory}
 use Rattle.site_history.proofs.JournalLaws.{not_bad_journal}
 use Rattle.site_history.proofs.Reopenings.{settled_as}
@@ -20,7 +20,7 @@ use Rattle.session.specs.Rounds.{Stage, IsRun, stage_after, own}
 use Rattle.session.specs.Standing.{StandsAt}
 use Rattle.session.specs.Kept.{Passes, AreHeld}
 use Rattle.session.specs.Session.{Outside, IsSession, Ends}
-use Rattle.session.specs.Outcomes.{IsAnswered, WritesWhole, IsOutcome, HasStatus, stage_of, journal_bytes}
+use Rattle.session.specs.Outcomes.{IsAnswered, WritesWhole, IsOutcome, HasStatus, stage_of}
 use Rattle.session.specs.declared.kept.Mark.{Mark}
 use Rattle.session.specs.declared.kept.Ending.{Ending}
 use Rattle.session.proofs.KeptLaws.{opening_read, opening_later}

@@ -12,7 +12,7 @@ use Rattle.engine.specs.declared.engine.ShutCause.TheVariants.{BankFault, BadJou
 use Rattle.engine.specs.Journals.{TellsJournal}
 use Rattle.session.specs.Session.{Outside}
 use Rattle.session.specs.Refusing.{TellsRefusal, status_of_shut}
-use Rattle.session.specs.Outcomes.{Refusal, IsRefused, HasStatus, journal_bytes}
+use Rattle.session.specs.Outcomes.{Refusal, IsRefused, HasStatus}
 use Rattle.session.specs.declared.kept.Mark.{Mark}
 use Rattle.session.proofs.StatusCauses.{by_bank, by_memory, by_bad_journal}
 

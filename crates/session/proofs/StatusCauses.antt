@@ -6,7 +6,7 @@ use Rattle.bank.specs.Content.{Content}
 use Rattle.site_history.specs.Terms.{Terms}
 use Rattle.site_history.specs.Journals.{IsBadJournal}
 use Rattle.session.specs.Session.{Outside}
-use Rattle.session.specs.Outcomes.{HasStatus, journal_bytes}
+use Rattle.session.specs.Outcomes.{HasStatus}
 
 -- What is said of the bytes of a source follows from what is said of them otherwise, or holds of any.
 pub if_some : (a : Option (List ℕ)) (P Q : List ℕ → Type 0) → ((xs : List ℕ) → P xs → Q xs) → IfSome a P → IfSome a Q

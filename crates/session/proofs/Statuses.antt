@@ -25,7 +25,7 @@ use Rattle.session.specs.Machine.{AreTold, machine_run, output_of, texts_told}
 use Rattle.desk.specs.Asks.{is_skipped, asked_of}
 use Rattle.input.specs.Lines.{RawLine, Kept, Long, raw_lines}
 use Rattle.session.specs.Session.{Outside, IsSession, Ends, status_of}
-use Rattle.session.specs.Outcomes.{HasStatus, journal_bytes}
+use Rattle.session.specs.Outcomes.{HasStatus}
 use Rattle.session.specs.declared.kept.Mark.{Mark}
 use Rattle.session.specs.declared.kept.Ending.{Ending}
 use Rattle.session.specs.declared.kept.Ending.TheVariants.{Ended, Closed, SourceFault, SinkFault, OverBudget, NoMemory}

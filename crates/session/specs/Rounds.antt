@@ -1,5 +1,5 @@
 -- Rounds: what was asked, what was answered, and what followed from it.
-use Rattle.std.specs.Prelude.{◌≡◌, ◌⊎◌, ◌+◌, ◌≤◌, ℕ, max, List, [], ◌∷◌, length, map, flat_map, Bool, ◌&&◌, ◌==◌, if◌then◌else◌, true, false, cond, nat_eq, Option, Some, None, IfSome, Result, Ok, Err}
+use Rattle.std.specs.Prelude.{◌≡◌, ◌⊎◌, ◌+◌, ◌≤◌, ℕ, max, List, [], ◌∷◌, map, flat_map, Bool, ◌&&◌, ◌==◌, if◌then◌else◌, true, false, cond, nat_eq, Option, Some, None, IfSome, Result, Ok, Err}
 use Rattle.outside.specs.declared.folder.NamedText.{NamedText}
 use Rattle.outside.specs.Moments.{Gives, next_moment}
 use Rattle.bank.specs.Content.{Content, Image}

@@ -1,4 +1,4 @@
-use Rattle.std.proofs.Common.{ℕ, ◌+◌, ◌<◌, ◌≤◌, Some, length, refl, sym, subst, arith, rules}
+use Rattle.std.proofs.Common.{◌+◌, ◌<◌, ◌≤◌, Some, length, refl, subst, arith, rules}
 use Rattle.bank.proofs.Readings.{nothing_read}
 use Rattle.site_history.specs.Worlds.{World, site_of, at_moment, made_in, owing_in}
 use Rattle.site_history.specs.Turns.{Turn}

@@ -1,5 +1,5 @@
 use Rattle.std.proofs.Common.{◌≡◌, arith, ℕ, refl, ap, subst}
-use Rattle.site_history.specs.Worlds.{World, site_of, steps_of, at_moment}
+use Rattle.site_history.specs.Worlds.{site_of, steps_of, at_moment}
 use Rattle.site_history.specs.Turns.{moment_of, Turn}
 use Rattle.site_history.proofs.WorldLaws.{world_kept, world_bytes}
 use Rattle.engine.proofs.Serving.{stands_later, stays_later, moves_from}
