@@ -18,20 +18,9 @@ use Rattle.site_history.specs.Histories.{Begins}
 use Rattle.site_history.specs.Worlds.{World, steps_of, at, at_moment, owing_in, with_step, IsWithOrWithout}
 use Rattle.site_history.specs.Turns.{answer_in, answered_in, failed_in, moment_of, TurnBy, Course, Goes, Stays, Fails, Owes, course_of, IsReopened, EventTurnBy}
 use Rattle.site_history.specs.Images.{Reads, ReadsAs}
+use Rattle.site_history.proofs.Between.{begins_same, begins_then, begins_with, led_begins}
 use Rattle.session.specs.Rounds.{Stage, Round, IsEvent, IsRoundOf, IsRun, stage_after, marks_from}
 use Rattle.session.specs.Kept.{AreKept, AreHeld}
-
--- A history begins with itself, and with what a beginning of it begins with.
-whole : (steps : List HistoryStep) → Begins steps steps
-whole steps = ([], sym (append-nil steps))
-
-longer : (front mid steps : List HistoryStep) → Begins front mid → Begins mid steps → Begins front steps
-longer front mid steps (more, e) (rest, k) = (more ++ rest, k ∙ ap (λ (l : List HistoryStep). l ++ rest) e ∙ append_assoc front more rest)
-
--- The step of an answer comes behind the others.
-with_step_begins : (history : List HistoryStep) (step : Option HistoryStep) → Begins history (with_step history step)
-with_step_begins history None = whole history
-with_step_begins history (Some made) = (made ∷ [], refl)
 
 -- A world goes on from another: its history begins with the other's, and it stands on the first site where the other does.
 record GoesOn (w w' : World) : Type 0 where
@@ -39,26 +28,22 @@ record GoesOn (w w' : World) : Type 0 where
   first : w.base.steps ≡ 0 → w'.base.steps ≡ 0
 
 stays_on : (w : World) → GoesOn w w
-stays_on w = record { history = whole w.history; first = λ e. e }
+stays_on w = record { history = begins_same w.history; first = λ e. e }
 
 goes_on_alike : (w v w' : World) → w' ≡ v → GoesOn w v → GoesOn w w'
 goes_on_alike w v w' e on = subst (λ (x : World). GoesOn w x) (sym e) on
 
 goes_further : (w mid w' : World) → GoesOn w mid → GoesOn mid w' → GoesOn w w'
-goes_further w mid w' one two = record { history = longer w.history mid.history w'.history one.history two.history; first = λ e. two.first (one.first e) }
+goes_further w mid w' one two = record { history = begins_then w.history mid.history w'.history one.history two.history; first = λ e. two.first (one.first e) }
 
 -- A turn adds at most a step.
 turn_goes_on : (course : Course) (told : Bool) (answer : Answer) (w : World) (event : Event) (moment : ℕ) (reply : Reply) (w' : World) → TurnBy course told answer w event moment reply w' → GoesOn w w'
-turn_goes_on Goes told answer w event moment reply w' turn = goes_on_alike w (answered_in answer moment w) w' turn.1 (record { history = with_step_begins w.history answer.step; first = λ e. e })
-turn_goes_on Stays told answer w event moment reply w' turn = goes_on_alike w (at_moment moment w) w' turn (record { history = whole w.history; first = λ e. e })
-turn_goes_on Fails told answer w event moment reply w' turn = goes_on_alike w (failed_in event moment w) w' turn (record { history = whole w.history; first = λ e. e })
-turn_goes_on Owes told answer w event moment reply w' turn = goes_on_alike w (owing_in answer.step (at_moment moment w)) w' turn (record { history = whole w.history; first = λ e. e })
+turn_goes_on Goes told answer w event moment reply w' turn = goes_on_alike w (answered_in answer moment w) w' turn.1 (record { history = begins_with w.history answer.step; first = λ e. e })
+turn_goes_on Stays told answer w event moment reply w' turn = goes_on_alike w (at_moment moment w) w' turn (record { history = begins_same w.history; first = λ e. e })
+turn_goes_on Fails told answer w event moment reply w' turn = goes_on_alike w (failed_in event moment w) w' turn (record { history = begins_same w.history; first = λ e. e })
+turn_goes_on Owes told answer w event moment reply w' turn = goes_on_alike w (owing_in answer.step (at_moment moment w)) w' turn (record { history = begins_same w.history; first = λ e. e })
 
--- A reopening adds the step that is owed, or none.
-led_begins : (w : World) (steps : List HistoryStep) → IsWithOrWithout w steps → Begins w.history steps
-led_begins w steps (inl e) = subst (λ (l : List HistoryStep). Begins w.history l) (sym e) (whole w.history)
-led_begins w steps (inr (made, owed, e)) = (made ∷ [], e)
-
+-- So does a reopening.
 reopened_goes_on : (terms : Terms) (journal : Content) (w w0 : World) → IsReopened terms true journal w w0 → GoesOn w w0
 reopened_goes_on terms journal w w0 (steps, led, holds, e) = goes_on_alike w (at steps w.clock) w0 e (record { history = led_begins w steps led; first = λ k. refl })
 
@@ -106,12 +91,12 @@ run_goes_on terms folder stage (x ∷ rounds) run =
 -- An image that reads as a world reads as a history that begins with the world's.
 read_begins : (terms : Terms) (c : Image) (front : List HistoryStep) (w : World) → Begins front w.history → ReadsAs terms w c → (steps : List HistoryStep) × Reads terms c steps × Begins front steps
 read_begins terms c front w begins (inl reads) = (w.history, reads, begins)
-read_begins terms c front w begins (inr (made, owed, reads)) = (w.history ++ made ∷ [], reads, longer front w.history (w.history ++ made ∷ []) begins (made ∷ [], refl))
+read_begins terms c front w begins (inr (made, owed, reads)) = (w.history ++ made ∷ [], reads, begins_then front w.history (w.history ++ made ∷ []) begins (made ∷ [], refl))
 
 -- An image since a moment reads as a history that begins with that which stood at the moment.
 since_begins : (terms : Terms) (folder : Option (List NamedText)) (v : View) (from : ℕ) (stage : Stage) (rounds : List Round) → AreKept terms v from stage.world rounds → IsRun terms true folder stage rounds
     → (c : Image) → v.left_since from c → (steps : List HistoryStep) × Reads terms c steps × Begins stage.world.history steps
-since_begins terms folder v from stage [] kept run c left = read_begins terms c stage.world.history stage.world (whole stage.world.history) (kept c left)
+since_begins terms folder v from stage [] kept run c left = read_begins terms c stage.world.history stage.world (begins_same stage.world.history) (kept c left)
 since_begins terms folder v from stage (x ∷ rounds) kept run c left = by_time (kept.0 c left) (since_begins terms folder v x.moment x.after rounds kept.1 run.1 c)
   where
     begins : Begins stage.world.history x.after.world.history
@@ -120,8 +105,8 @@ since_begins terms folder v from stage (x ∷ rounds) kept run c left = by_time 
     by_time : v.left_since x.moment c ⊎ (ReadsAs terms stage.world c ⊎ ReadsAs terms x.after.world c)
         → (v.left_since x.moment c → (steps : List HistoryStep) × Reads terms c steps × Begins x.after.world.history steps)
         → (steps : List HistoryStep) × Reads terms c steps × Begins stage.world.history steps
-    by_time (inl later) behind = let r = behind later in (r.0, r.1, longer stage.world.history x.after.world.history r.0 begins r.2)
-    by_time (inr (inl reads)) behind = read_begins terms c stage.world.history stage.world (whole stage.world.history) reads
+    by_time (inl later) behind = let r = behind later in (r.0, r.1, begins_then stage.world.history x.after.world.history r.0 begins r.2)
+    by_time (inr (inl reads)) behind = read_begins terms c stage.world.history stage.world (begins_same stage.world.history) reads
     by_time (inr (inr reads)) behind = read_begins terms c stage.world.history x.after.world begins reads
 
 -- The first steps of a history from the first site, as many as led to an earlier world, are that world's.

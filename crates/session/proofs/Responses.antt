@@ -5,9 +5,9 @@ use Rattle.outside.specs.Moments.{Gives, next_moment}
 use Rattle.std.proofs.lemmas.Bool.{eqb-true}
 use Rattle.base.specs.Causes.{Rose, AreCounted}
 use Rattle.outside.specs.declared.folder.NamedText.{NamedText}
-use Rattle.bank.specs.Content.{Content, Image}
+use Rattle.bank.specs.Content.{Content}
 use Rattle.bank.specs.View.{View, IsSound, LeavesOnly}
-use Rattle.bank.proofs.Moments.{started, weakened}
+use Rattle.bank.proofs.Moments.{started}
 use Rattle.site_events.specs.declared.event.Asked.{Asked}
 use Rattle.site_events.specs.declared.event.Asked.TheVariants.{One, At as AskedAt, Configure}
 use Rattle.site_events.specs.declared.event.Event.{Event}
@@ -21,10 +21,10 @@ use Rattle.configuration.specs.FolderTexts.{AreRead}
 use Rattle.site_history.specs.Terms.{Terms}
 use Rattle.site_history.specs.Worlds.{World}
 use Rattle.site_history.specs.Turns.{EventTurn}
-use Rattle.site_history.specs.Images.{ReadsAs, ReadsBetween}
-use Rattle.site_history.proofs.Between.{event_reads}
+use Rattle.site_history.specs.Images.{ReadsAs}
 use Rattle.engine.specs.declared.kept.Engine.{Engine}
 use Rattle.engine.specs.StandsFor.{Moves}
+use Rattle.engine.proofs.Serving.{either_world}
 use Rattle.session.specs.Requests.{reply_to}
 use Rattle.session.specs.Hearing.{IsReadAs}
 use Rattle.session.specs.Rounds.{Stage, own, moments_of, IsEvent, IsRoundOf, faults_of, journal_faults_of, folder_faults_of}
@@ -92,14 +92,6 @@ refused_folder WantOfMemory before after later = omega (arith, later)
 -- the clock tells.
 module _ (terms : Terms) {B P : Type 0} (told : Bool) (view : B → View) (engine : Engine B P) (own_moment : Option ℕ) (clock : Option (List ℕ)) (folder : Option (List NamedText)) (faults faults' : ℕ) (stage : Stage)
     (stands : StandsAt terms told view engine own_moment clock stage) where
-  -- An event makes one step at most: each image meanwhile reads as the world before it or as the one after it.
-  one_or_other : (event : Event) (now area : ℕ) (journal : Content) (reply : Reply) (w' : World) (v' : View) → (t : Bool) → t ≡ true → EventTurn terms t stage.world event now area journal reply w'
-      → LeavesOnly (view engine.bank) v' (ReadsBetween terms stage.world w') → LeavesOnly (view engine.bank) v' (λ c. ReadsAs terms stage.world c ⊎ ReadsAs terms w' c)
-  one_or_other event now area journal reply w' v' false is turn left = absurd (cc)
-  one_or_other event now area journal reply w' v' true is turn left =
-      weakened (view engine.bank) v' (ReadsBetween terms stage.world w') (λ (c : Image). ReadsAs terms stage.world c ⊎ ReadsAs terms w' c) left
-      (λ c between. event_reads terms stage.world w' c event now area journal reply between (λ at_rest. (stands.world.in_step (stands.world.due ∙ at_rest)).0) turn)
-
   -- An event was served at the moment that was taken.
   pub served : (area : ℕ) (journal : Content) (event : Event) (now : ℕ) (clock' : Option (List ℕ)) (reply : Reply) (engine' : Engine B P) → Gives (moments_of own_moment clock) (moments_of own_moment clock') now
       → (w' : World) × EventTurn terms told stage.world event now area journal reply w' × Moves terms told view engine engine' stage.world w'
@@ -107,7 +99,7 @@ module _ (terms : Terms) {B P : Type 0} (told : Bool) (view : B → View) (engin
   served area journal event now clock' reply engine' gives turn = (
     record { world = turn.0; moments = moments_of own_moment clock' },
     (now, subst (λ (ms : Option (List ℕ)). Gives ms (moments_of own_moment clock') now) (sym stands.moments) gives, turn.1),
-    record { world = turn.2.stands; meanwhile = λ t. one_or_other event now area journal reply turn.0 (view engine'.bank) told t turn.1 (turn.2.moments t); moments = refl },
+    record { world = turn.2.stands; meanwhile = either_world terms told view engine engine' stage.world turn.0 event now area journal reply stands.world turn.1 turn.2; moments = refl },
   )
 
   -- The round that a reply makes, where the session stands after it, and what the folder counted.

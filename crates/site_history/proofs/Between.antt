@@ -64,7 +64,7 @@ module _ (terms : Terms) (w mid w' : World) (c : Image) (nothing : mid.owed ≡ 
   between_after begins goes_on (inr (steps, from, to, reads)) = inr (steps, begins_then w.history mid.history steps begins from, to, reads)
 
 -- Where a reopening leads is in the middle too.
-led_begins : (w : World) (steps : List HistoryStep) → IsWithOrWithout w steps → Begins w.history steps
+pub led_begins : (w : World) (steps : List HistoryStep) → IsWithOrWithout w steps → Begins w.history steps
 led_begins w steps (inl is) = subst (λ (l : List HistoryStep). Begins w.history l) (sym is) (begins_same w.history)
 led_begins w steps (inr (owed, owes, is)) = (owed ∷ [], is)
 
@@ -188,19 +188,3 @@ module _ (terms : Terms) (w w' : World) (c : Image) where
 
     pub event_reads : (w.due ≡ false → w.owed ≡ None) → EventTurn terms true w event now area read reply w' → ReadsAs terms w c ⊎ ReadsAs terms w' c
     event_reads none turn = by_due w.due refl none turn
-
--- What an event leads to goes on from what was before.
-pub turn_begins : (terms : Terms) (told : Bool) (w : World) (event : Event) (moment area : ℕ) (reply : Reply) (w' : World) → w.owed ≡ None → Turn terms told w event moment area reply w'
-    → Begins w.history (whole_of w')
-turn_begins terms told w event moment area reply w' none turn = whole_begins w.history (whole_of w') (turn_next terms told w event moment area reply w' none turn)
-
-pub event_begins : (terms : Terms) (w : World) (event : Event) (now area : ℕ) (read : Content) (reply : Reply) (w' : World) → (w.due ≡ false → w.owed ≡ None) → EventTurn terms true w event now area read reply w'
-    → Begins w.history (whole_of w')
-event_begins terms w event now area read reply w' none turn = begins_by w.due refl turn
-  where
-    begins_by : (due : Bool) → w.due ≡ due → EventTurnBy terms due true w event now area read reply w' → Begins w.history (whole_of w')
-    begins_by false due turn = turn_begins terms true w event (moment_of w.clock now) area reply w' (none due) turn
-    begins_by true due (inl (w0, (steps, led, holds, is), turn)) = begins_then w.history steps (whole_of w') (led_begins w steps led)
-        (subst (λ (l : List HistoryStep). Begins l (whole_of w')) (ap (λ (x : World). x.history) is)
-        (turn_begins terms true w0 event (moment_of w0.clock now) area reply w' (ap (λ (x : World). x.owed) is) turn))
-    begins_by true due (inr (refuses, same)) = subst (λ (x : World). Begins w.history (whole_of x)) (sym same) (begins_with w.history w.owed)
