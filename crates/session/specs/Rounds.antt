@@ -61,7 +61,7 @@ abbrev pub IsMovedTo : ℕ → Stage → Reply → Stage → Type 0
 IsMovedTo moment stage reply stage' = (now : ℕ) × IfSome stage.moments (λ moments. now ≡ next_moment moments)
     × (reply ≡ At (max moment now)) × (stage' ≡ record { world = stage.world; moments = own (max moment now) })
 
--- One round from a stage, over a journal of this size; `told` is whether the store tells its content, `folder` what the folder
+-- One round from a stage, on these terms; `told` is whether the store tells its content, `folder` what the folder
 -- tells, `area` that of the store's last fault, and `journal` what the journal's area read when the round began. An event is one
 -- of the machine. `at` gives the session a moment of its own. `configure` is the event of the texts that were read of the folder;
 -- where they could not be read, all stays. Or no memory was found to read the request. What is asked otherwise is no command.

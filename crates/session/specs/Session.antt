@@ -70,7 +70,7 @@ Ends budget old new read beyond met_end told untold cut lost unasked SinkFault =
 Ends budget old new read beyond met_end told untold cut lost unasked NoMemory =
     GoOn told × (beyond ≡ []) × (length untold ≡ 1) × (cut ≡ [])
 
--- A session from a stage, over a journal of this size: what was read, asked, answered and written, what ended it, and what a
+-- A session from a stage, on these terms: what was read, asked, answered and written, what ended it, and what a
 -- crash at any moment left. `Asks` is what a text asks and how that is answered, be it the lines of a script or the requests of a
 -- protocol. `Stands` says at which stage the session stands at the end, `tells` whether the store tells its content, and `store`
 -- what it tells at the end.

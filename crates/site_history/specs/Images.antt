@@ -19,7 +19,7 @@ extents_of contents file = extents_over file.runs (take file.cached (bytes_of co
 abbrev pub extents : Site → List Extent
 extents site = flat_map (extents_of site.contents) site.fields.files
 
--- The image reads as this history: its journal, in an area of this size, holds the written forms of its steps, and the bytes
+-- The image reads as this history: its journal, in an area of the size that the terms give, holds the written forms of its steps, and the bytes
 -- of each file stand at its runs.
 pub record Reads (terms : Terms) (c : Image) (steps : List HistoryStep) : Type 0 where
   pub history : IsHistory terms steps
