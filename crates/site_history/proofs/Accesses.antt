@@ -1,5 +1,5 @@
 -- Steps of a file that is there: `bare_legal` says that one may come, and `read_length` how many bytes a read answers.
-use Rattle.std.proofs.Common.{◌≡◌, ℕ, ◌≤◌, ◌<◌, ◌^◌, length, take, min, refl, arith}
+use Rattle.std.proofs.Common.{◌≡◌, ℕ, ◌≤◌, ◌<◌, ◌^◌, length, take, min, arith}
 use Rattle.std.proofs.lemmas.List.{length-take}
 use Rattle.site_types.specs.declared.file.FileRec.{FileRec}
 use Rattle.site_types.specs.declared.step.StepKind.{StepKind}

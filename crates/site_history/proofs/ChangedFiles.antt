@@ -2,7 +2,7 @@
 -- It is one edit of the list, as code makes it (`changed-set`, for `files[i].field = ..`), the inodes still rise
 -- (`rising-changed`), what holds of each file still does where it holds of the changed one (`all-changed`), and the files hold the
 -- same runs (`held-changed`).
-use Rattle.std.proofs.Common.{◌≡◌, ℕ, ◌+◌, ◌<◌, ◌≤◌, zero, suc, List, [], ◌∷◌, ◌++◌, length, get_or, set, refl, ◌∙◌, ap, arith, Bool, true, false, cond}
+use Rattle.std.proofs.Common.{◌≡◌, ℕ, ◌+◌, ◌<◌, zero, suc, List, [], ◌∷◌, ◌++◌, length, get_or, set, refl, ◌∙◌, ap, arith, Bool, true, false, cond}
 use Rattle.std.specs.Prelude.{◌==◌}
 use Rattle.std.specs.List.{AllByRecursion}
 use Rattle.std.proofs.lemmas.Bool.{eq-eqb, ne_eqb}

@@ -1,5 +1,5 @@
 -- The steps that change one file and leave its bytes: what their changes leave, and that the file is still kept.
-use Rattle.std.proofs.Common.{◌≡◌, ℕ, ◌+◌, ◌≤◌, refl, arith}
+use Rattle.std.proofs.Common.{ℕ, ◌+◌, ◌≤◌, refl, arith}
 use Rattle.site_types.specs.declared.file.FileRec.{FileRec}
 use Rattle.site_history.specs.AccessedSteps.{accessed_at}
 use Rattle.site_history.specs.Kept.{IsFileKept}

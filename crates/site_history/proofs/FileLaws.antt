@@ -1,7 +1,7 @@
 -- Files by inode. Their inodes rise, so that each is that of one file; and what a put and a removal do to the list of files is
 -- one edit of it, as code makes it: `with_file-new` for a push, `with_file-set` for `files[i] = ..`, `without_file-remove` for
 -- `files.remove(i)`.
-use Rattle.std.proofs.Common.{◌≡◌, ℕ, ◌+◌, ◌<◌, ◌≤◌, zero, suc, List, [], ◌∷◌, ◌++◌, length, get_or, set, map, refl, ◌∙◌, ap, arith, Bool, true, false, cond, not}
+use Rattle.std.proofs.Common.{◌≡◌, ℕ, ◌+◌, ◌<◌, ◌≤◌, zero, suc, List, [], ◌∷◌, ◌++◌, length, get_or, set, refl, ◌∙◌, ap, arith, Bool, true, false, cond, not}
 use Rattle.std.specs.Prelude.{◌==◌}
 use Rattle.std.specs.List.{AllByRecursion, remove}
 use Rattle.std.proofs.lemmas.Bool.{eq-eqb, ne_eqb, eqb-false}

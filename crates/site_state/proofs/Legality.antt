@@ -6,7 +6,6 @@ use Rattle.std.specs.Str.{bytes_eq}
 use Rattle.std.proofs.lemmas.Bool.Decides.{nat_tests}
 use Rattle.site_types.specs.declared.file.FileRec.{FileRec}
 use Rattle.site_types.specs.declared.file.SiteTexts.{SiteTexts}
-use Rattle.site_types.specs.declared.step.PutStep.{PutStep}
 use Rattle.site_types.specs.declared.step.StepKind.{StepKind}
 use Rattle.site_types.specs.declared.step.StepKind.TheVariants.{Configured}
 use Rattle.site_history.specs.Terms.{Terms}
