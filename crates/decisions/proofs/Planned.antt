@@ -1,41 +1,46 @@
 -- Plans are of the answers that they are made for.
-use Rattle.std.proofs.Common.{◌≡◌, ℕ, ◌≤◌, List, length, take, min, sym, ◌∙◌, ap, arith, Bool, Option, Some, None}
+use Rattle.std.proofs.Common.{◌≡◌, ℕ, ◌≤◌, ◌<◌, ◌^◌, List, length, take, min, sym, ◌∙◌, ap, arith, Bool, Option, Some, None}
 use Rattle.std.specs.Prelude.{is_none}
 use Rattle.std.specs.Borrow.{Bor}
 use Rattle.std.specs.Option.{option_copied}
 use Rattle.std.specs.Str.{bytes_eq}
 use Rattle.std.specs.Global.{Vec}
 use Rattle.std.proofs.lemmas.List.{take_min, length-take}
-use Rattle.site_events.specs.declared.event.Event.TheVariants.{Put as PutEvent, Read as ReadEvent, Remove as RemoveEvent, Configure as ConfigureEvent}
+use Rattle.site_events.specs.declared.event.Event.TheVariants.{Put as PutEvent, Read as ReadEvent}
 use Rattle.site_types.specs.declared.file.FileRec.{FileRec}
 use Rattle.site_types.specs.declared.file.Run.{Run}
-use Rattle.site_types.specs.declared.file.SiteTexts.{SiteTexts}
-use Rattle.site_events.specs.declared.reply.Reply.TheVariants.{Stored, Done}
+use Rattle.site_events.specs.declared.reply.Reply.{Reply}
+use Rattle.site_events.specs.declared.reply.Reply.TheVariants.{Stored}
 use Rattle.site_types.specs.declared.step.Step.{Step}
 use Rattle.site_types.specs.declared.step.PutStep.{PutStep}
 use Rattle.site_types.specs.declared.step.StepKind.{StepKind}
-use Rattle.site_types.specs.declared.step.StepKind.TheVariants.{Configured, Put, Accessed, Removed}
+use Rattle.site_types.specs.declared.step.StepKind.TheVariants.{Put, Accessed}
 use Rattle.cache_space.specs.Blocks.{blocks_for, free_blocks, lowest_runs}
-use Rattle.cache_space.specs.Space.{blocks_in}
+use Rattle.cache_space.specs.Space.{AreMaximal, blocks_in}
+use Rattle.step_codec.specs.Lengths.{step_length}
+use Rattle.step_codec.proofs.InRange.{in_range}
+use Rattle.site_types.specs.Ranges.{Ranges}
 use Rattle.site_history.specs.Terms.{Terms}
 use Rattle.site_history.specs.Site.{Fields, Site, file_at, held_runs, bytes_of, cache_blocks}
-use Rattle.site_history.specs.Steps.{HistoryStep}
+use Rattle.site_history.specs.Steps.{HistoryStep, runs_by}
 use Rattle.site_history.specs.PutSteps.{inode_for}
 use Rattle.site_history.specs.Kept.{IsKept, HaveAllBytes}
 use Rattle.site_history.specs.Answers.{answer_to}
-use Rattle.site_history.specs.ConfigureAnswers.{configure_refusal}
 use Rattle.site_history.specs.FileAnswers.{put_rule, put_made}
 use Rattle.site_history.specs.Running.{Running}
-use Rattle.site_history.specs.Replies.{Answer}
+use Rattle.site_history.specs.Replies.{Answer, makes, bare_step}
 use Rattle.site_history.proofs.KeptLaws.{IsFileOf, found-file}
 use Rattle.site_history.proofs.Accesses.{read_length}
 use Rattle.site_history.proofs.Puts.{admitted}
-use Rattle.site_history.proofs.Turns.{put-stored, read-found, remove-found, configure-made}
+use Rattle.site_history.proofs.Turns.{put-stored, read-found}
 use Rattle.site_state.specs.declared.prepare.Prepared.{Prepared}
 use Rattle.site_state.specs.declared.prepare.Setting.{Setting}
+use Rattle.site_state.specs.declared.state.SiteState.{SiteState}
+use Rattle.site_state.specs.Room.{HasRoomFor, HasSettingFor}
 use Rattle.site_state.proofs.Places.{found_place}
 use Rattle.decisions.specs.declared.plan.Plan.TheVariants.{Make}
 use Rattle.decisions.specs.declared.plan.Work.TheVariants.{Nothing, Store, Load}
+use Rattle.decisions.specs.Needs.{IsRecordable}
 use Rattle.decisions.specs.Plans.{LieAt, IsPlanOf}
 
 -- what a search for a path says where it finds none, and where it finds a file
@@ -53,6 +58,17 @@ same_rule fields a b c path owner group m n e f g h =
     ∙ ap (λ (l : List ℕ). put_rule fields a l group n) (sym f)
     ∙ ap (λ (l : List ℕ). put_rule fields a b l n) (sym g)
     ∙ ap (λ (k : ℕ). put_rule fields a b c k) (sym h)
+
+-- a step without runs, bytes or texts
+pub bare_recordable : (state : SiteState) (moment : ℕ) (kind : StepKind) → moment < 2 ^ 40 → Ranges kind → step_length (record { moment = moment; kind = kind }) ≤ 1048576
+    → AreMaximal (runs_by kind) → HasRoomFor state.files (record { moment = moment; kind = kind }) → HasSettingFor (record { moment = moment; kind = kind }) None
+    → IsRecordable state (record { step = record { moment = moment; kind = kind }; setting = None })
+bare_recordable state moment kind range ranges short maximal room setting = record {
+  range = in_range (record { moment = moment; kind = kind }) range ranges;
+  short = short;
+  maximal = maximal;
+  memory = record { room = room; setting = setting };
+}
 
 module _ (terms : Terms) (site : Site) (running : Running) (moment : ℕ) (setting : Option Setting) where
   -- a step that is made ready
@@ -85,21 +101,13 @@ module _ (terms : Terms) (site : Site) (running : Running) (moment : ℕ) (setti
         ap (λ (a : Answer). a.running) answer,
       )
 
-  -- a configuration that no rule refuses
-  pub configuration_planned : (texts : SiteTexts) → configure_refusal site.fields texts ≡ None
-      → IsPlanOf site running (answer_to terms site running moment (ConfigureEvent texts)) (Make (prepared_as (Configured texts)) (Nothing (Done 0)))
-  configuration_planned texts rule =
-      let answer = configure-made terms site running moment texts rule in
-      (ap (λ (a : Answer). a.step) answer, ap (λ (a : Answer). a.reply) answer, ap (λ (a : Answer). a.running) answer)
+  -- a step without bytes, after which a reply that is known is given
+  pub nothing_planned : (answer : Answer) (reply : Reply) (kind : StepKind) → answer ≡ makes running reply (bare_step moment kind)
+      → IsPlanOf site running answer (Make (prepared_as kind) (Nothing reply))
+  nothing_planned answer reply kind is = (ap (λ (a : Answer). a.step) is, ap (λ (a : Answer). a.reply) is, ap (λ (a : Answer). a.running) is)
 
   module _ (path : List ℕ) (file : FileRec) (found : file_at path site.fields.files ≡ Some file) where
-    -- a removal of a file that is there
-    pub removal_planned : IsPlanOf site running (answer_to terms site running moment (RemoveEvent path)) (Make (prepared_as (Removed file.inode)) (Nothing (Done file.inode)))
-    removal_planned =
-        let answer = remove-found terms site running moment path file found in
-        (ap (λ (a : Answer). a.step) answer, ap (λ (a : Answer). a.reply) answer, ap (λ (a : Answer). a.running) answer)
-
-    -- a read of it
+    -- a read of a file that is there
     module _ (count : ℕ) (kept : IsKept count site.fields) (bytes : HaveAllBytes site) (upto : ℕ) where
       of : IsFileOf count site.fields file
       of = (found-file count site.fields kept path file found).0

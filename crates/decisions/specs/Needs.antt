@@ -2,24 +2,16 @@
 use Rattle.std.specs.Prelude.{◌≤◌}
 use Rattle.step_codec.specs.Lengths.{step_length}
 use Rattle.step_codec.specs.Written.{InRange}
-use Rattle.site_events.specs.declared.reply.Reply.{Reply}
-use Rattle.site_events.specs.declared.reply.Reply.TheVariants.{BankFault, BadJournal, NoMemory}
 use Rattle.cache_space.specs.Space.{AreMaximal}
+use Rattle.site_history.specs.Steps.{put_runs}
+use Rattle.site_history.specs.Replies.{TellsNoFault}
 use Rattle.site_state.specs.declared.prepare.Prepared.{Prepared}
 use Rattle.site_state.specs.declared.state.SiteState.{SiteState}
-use Rattle.site_state.specs.Fields.{put_runs}
 use Rattle.site_state.specs.Room.{IsPrepared}
 use Rattle.decisions.specs.declared.plan.Plan.{Plan}
 use Rattle.decisions.specs.declared.plan.Plan.TheVariants.{Answer, Make}
 use Rattle.decisions.specs.declared.plan.Work.{Work}
 use Rattle.decisions.specs.declared.plan.Work.TheVariants.{Nothing, Store, Load}
-
--- the reply tells no fault of the store, no bad journal and no want of memory
-abbrev pub TellsNoFault : Reply → Type 0
-TellsNoFault BankFault = ⊥
-TellsNoFault (BadJournal place) = ⊥
-TellsNoFault NoMemory = ⊥
-TellsNoFault _ = Unit {0}
 
 abbrev pub NamesNoFault : Work → Type 0
 NamesNoFault (Nothing reply) = TellsNoFault reply

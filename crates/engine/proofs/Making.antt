@@ -8,13 +8,10 @@ use Rattle.bank.specs.Inside.{WroteInside}
 use Rattle.bank.proofs.Moments.{weakened}
 use Rattle.site_events.specs.declared.event.Event.{Event}
 use Rattle.site_events.specs.declared.reply.Reply.{Reply}
-use Rattle.site_types.specs.declared.step.StepKind.{StepKind}
-use Rattle.site_types.specs.declared.step.StepKind.TheVariants.{Put}
 use Rattle.step_codec.specs.Written.{written}
-use Rattle.cache_space.specs.Space.{AreApart}
 use Rattle.site_history.specs.Terms.{Terms}
 use Rattle.site_history.specs.Site.{Fields, Site, held_runs}
-use Rattle.site_history.specs.Steps.{HistoryStep, IsLegal, step_extents}
+use Rattle.site_history.specs.Steps.{HistoryStep, put_runs}
 use Rattle.site_history.specs.Running.{Running, nothing_runs, after_fault}
 use Rattle.site_history.specs.Histories.{after, IsHistory}
 use Rattle.site_history.specs.Worlds.{World, site_of, steps_of, at_moment}
@@ -29,9 +26,9 @@ use Rattle.site_history.proofs.Answered.{MayBeMade, StepMayBeMade, answered}
 use Rattle.site_history.proofs.ImageLaws.{image_reads, stand_image}
 use Rattle.site_history.proofs.Extents.{site_clear}
 use Rattle.site_history.proofs.Reopenings.{pinned_by_world}
+use Rattle.site_history.proofs.StepBytes.{runs_apart, step_stands}
 use Rattle.site_history.proofs.WritesElsewhere.{still_pinned, still_reads}
 use Rattle.site_state.specs.declared.prepare.Prepared.{Prepared}
-use Rattle.site_state.specs.Fields.{put_runs}
 use Rattle.site_state.specs.Keeps.{Keeps}
 use Rattle.decisions.specs.declared.plan.Plan.TheVariants.{Make}
 use Rattle.decisions.specs.declared.plan.Work.{Work}
@@ -40,17 +37,6 @@ use Rattle.engine.specs.declared.kept.Engine.{Engine}
 use Rattle.engine.specs.StandsFor.{StandsFor, Moves}
 use Rattle.engine.specs.Ready.{IsReady}
 use Rattle.engine.proofs.Turning.{stands_still, moves_behind}
-
--- The runs of a step that may come are apart from those that files hold.
-runs_apart : (terms : Terms) (fields : Fields) (moment : ℕ) (kind : StepKind) → IsLegal terms fields (record { moment = moment; kind = kind }) → AreApart (put_runs (record { moment = moment; kind = kind })) (held_runs fields.files)
-runs_apart terms fields moment (Put put) legal = legal.2.free.1
-runs_apart terms fields moment _ legal = λ block inside. absurd (let no : false ≡ true = inside in cc)
-
--- What a step stores are its bytes at its runs.
-step_stands : (v : View) (site : Site) (moment : ℕ) (kind : StepKind) (bytes : List ℕ) → StandInAll v (extents_over (put_runs (record { moment = moment; kind = kind })) bytes)
-    → StandInAll v (step_extents (record { step = record { moment = moment; kind = kind }; bytes = bytes }) site)
-step_stands v site moment (Put put) bytes stand = stand
-step_stands v site moment _ bytes stand = tt
 
 module _ (terms : Terms) {B P : Type 0} (told : Bool) (view : B → View) (engine : Engine B P) (w : World) (stands : StandsFor terms told view engine w) (ready : engine.due ≡ false) where
   -- what the engine keeps is what the world's site has
@@ -102,7 +88,7 @@ module _ (terms : Terms) {B P : Type 0} (told : Bool) (view : B → View) (engin
       (wrote : IsTrue told → WroteInside 1 (in_blocks_of (put_runs made.step)) (view engine.bank) (view mid.bank)) where
     clear : IsTrue told → IsClearOf 1 (in_blocks_of (put_runs made.step)) (extents (after terms w.history))
     clear t = subst (λ (s : Site). IsClearOf 1 (in_blocks_of (put_runs made.step)) (extents s)) (site_from_first terms w (stands.first t))
-        (site_clear (put_runs made.step) (site_of terms w) (runs_apart terms (site_of terms w).fields made.step.moment made.step.kind may.legal))
+        (site_clear (put_runs made.step) (site_of terms w) (runs_apart terms (site_of terms w).fields made.step may.legal))
 
     images_still : IsTrue told → (c : Image) → IsImage (view mid.bank) c → ReadsAs terms w c
     images_still t c image = inl (image_reads terms (view mid.bank) c w.history (history_it t)
@@ -132,7 +118,7 @@ module _ (terms : Terms) {B P : Type 0} (told : Bool) (view : B → View) (engin
         bytes = may.bytes;
         form = form;
         moment = may.moment_is ∙ sym clock;
-        stored = λ t. step_stands (view mid.bank) (site_of terms w) made.step.moment made.step.kind made.bytes (stored t);
+        stored = λ t. step_stands (view mid.bank) (site_of terms w) made (stored t);
       }
 
       -- its record is acknowledged, or it is owed

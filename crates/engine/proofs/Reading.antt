@@ -1,7 +1,6 @@
 -- The records of a journal, made steps again one after another.
-use Rattle.std.proofs.Common.{◌≡◌, inl, inr, ℕ, ◌+◌, List, [], ◌∷◌, ◌++◌, length, length-append, replicate, refl, sym, ◌∙◌, ap, subst, arith, Bool}
+use Rattle.std.proofs.Common.{◌≡◌, inl, inr, ℕ, ◌+◌, List, [], ◌∷◌, ◌++◌, length, length-append, refl, sym, ◌∙◌, ap, subst, arith, Bool}
 use Rattle.std.specs.Prelude.{IsTrue}
-use Rattle.std.proofs.lemmas.List.{length-replicate}
 use Rattle.bank.specs.Content.{Content}
 use Rattle.bank.specs.View.{View, OnlyRead}
 use Rattle.journal.specs.Records.{IsRecord, AreRecords, HoldsRecords, IsEnd, IsBadAt, end_of}
@@ -10,17 +9,15 @@ use Rattle.journal.specs.declared.reader.Found.{Found}
 use Rattle.journal.specs.declared.reader.Found.TheVariants.{Record, End, BadLength}
 use Rattle.journal.specs.State.{JournalState}
 use Rattle.journal.proofs.RecordLaws.{end-push, records-push}
-use Rattle.site_types.specs.declared.step.Step.{Step}
-use Rattle.site_types.specs.declared.step.StepKind.{StepKind}
-use Rattle.site_types.specs.declared.step.StepKind.TheVariants.{Put}
 use Rattle.site_history.specs.Terms.{Terms}
 use Rattle.site_history.specs.Site.{Site, first_fields}
-use Rattle.site_history.specs.Steps.{HistoryStep, HasBytes}
+use Rattle.site_history.specs.Steps.{HistoryStep}
 use Rattle.site_history.specs.Histories.{after, written_forms}
 use Rattle.site_history.specs.Journals.{IsBadJournal}
 use Rattle.site_history.proofs.HistoryLaws.{after-push, history-push}
 use Rattle.site_history.proofs.Commits.{written_forms-push}
 use Rattle.site_history.proofs.JournalLaws.{end_of-history}
+use Rattle.site_history.proofs.StepBytes.{with_zeros, zeros_fit}
 use Rattle.site_state.specs.declared.state.SiteState.{SiteState}
 use Rattle.site_state.specs.Keeps.{Keeps}
 use Rattle.site_state.specs.Replays.{IsOfNoStep, IsReplayed as IsStepReplayed}
@@ -40,24 +37,12 @@ pub found_before : (u v : View) (old new : ReaderState) (found : Found) → Only
 found_before u v old new found only finds over =
     subst (λ (c : Content). IsFound c old new found) (sym (same_content u v only)) (finds (subst (λ (c : Content). IsOver c old) (same_content u v only) over))
 
--- A journal has no byte of a file: a put that was read stands for one of zeros.
-abbrev zeros_of : StepKind → List ℕ
-zeros_of (Put put) = replicate put.length 0
-zeros_of _ = []
-
-abbrev with_zeros : Step → HistoryStep
-with_zeros step = record { step = step; bytes = zeros_of step.kind }
-
-zeros_fit : (moment : ℕ) (kind : StepKind) → HasBytes (with_zeros (record { moment = moment; kind = kind }))
-zeros_fit moment (Put put) = length-replicate put.length 0
-zeros_fit moment _ = refl
-
 -- before the first record
 pub read_none : (terms : Terms) (told : Bool) (c : Content) (reader : ReaderState) (site : SiteState) → Keeps site first_fields → reader.place ≡ 0 → reader.count ≡ 0 → IsReadUpTo terms told c reader site
 read_none terms told c reader site keeps place count = record { steps = []; history = tt; keeps = keeps; count = count; place = place; records = λ t. tt }
 
 module _ (terms : Terms) (told : Bool) (c : Content) (old new : ReaderState) (site : SiteState) (so_far : IsReadUpTo terms told c old site) where
-  -- one record more, of a step that may come
+  -- One record more, of a step that may come. A journal has no byte of a file: a put that was read stands for one of zeros.
   pub read_more : (next : SiteState) → GoesOn old new Record → new.size ≡ old.size → (IsTrue told → IsRecord c old.place new.payload old.size)
       → IsStepReplayed terms (after terms so_far.steps).fields new.payload next → IsReadUpTo terms told c new next
   read_more next on size here made =
@@ -66,7 +51,7 @@ module _ (terms : Terms) (told : Bool) (c : Content) (old new : ReaderState) (si
       written_forms-push so_far.steps step ∙ ap (λ (p : List ℕ). written_forms so_far.steps ++ p ∷ []) (sym made.form) in
       record {
         steps = so_far.steps ++ step ∷ [];
-        history = history-push terms so_far.steps step so_far.history made.legal (zeros_fit made.step.moment made.step.kind);
+        history = history-push terms so_far.steps step so_far.history made.legal (zeros_fit made.step);
         keeps = subst (λ (s : Site). Keeps next s.fields) (sym (after-push terms so_far.steps step)) made.keeps;
         count = omega (arith, on.3, so_far.count, length-append so_far.steps (step ∷ []));
         place = on.1 ∙ ap (λ (n : ℕ). n + 5 + length new.payload) so_far.place ∙ sym (end-push 0 (written_forms so_far.steps) new.payload) ∙ ap (λ (l : List (List ℕ)). end_of 0 l) (sym longer);

@@ -4,8 +4,8 @@ use Rattle.bank.specs.Content.{Content}
 use Rattle.site_events.specs.declared.reply.Reply.{Reply}
 use Rattle.site_events.specs.declared.reply.Reply.TheVariants.{BankFault, BadJournal, NoMemory}
 use Rattle.site_history.specs.Terms.{Terms}
+use Rattle.site_history.specs.Replies.{TellsNoFault}
 use Rattle.site_history.specs.Turns.{Goes, course_of}
-use Rattle.decisions.specs.Needs.{TellsNoFault}
 use Rattle.engine.specs.Journals.{RepliesJournal}
 
 -- is given as it is defined

@@ -6,12 +6,13 @@ ghost use Rattle.site_events.specs.declared.reply.Reply.{Reply as Replied};
 ghost use Rattle.cache_space.specs.Space.{AreMaximal};
 ghost use Rattle.site_history.specs.Site.{Site};
 ghost use Rattle.site_history.specs.Images.{extents};
+ghost use Rattle.site_history.specs.Replies.{TellsNoFault};
 ghost use Rattle.site_history.specs.Extents.{extents_over, AllStand};
 ghost use Rattle.site_history.specs.Pinned.{StandInAll, in_blocks_of};
 ghost use Rattle.site_history.specs.Turns.{IsReply};
-ghost use Rattle.site_state.specs.Fields.{put_runs};
+ghost use Rattle.site_history.specs.Steps.{put_runs};
 ghost use Rattle.decisions.specs.Plans.{Gives, stored_bytes};
-ghost use Rattle.decisions.specs.Needs.{NamesNoFault, TellsNoFault};
+ghost use Rattle.decisions.specs.Needs.{NamesNoFault};
 ghost use Rattle.engine.specs.Counts.{AreCountedInCache};
 
 use crate::data::{load_all, store};
@@ -19,17 +20,8 @@ use bank::{Bank, BankFailed};
 use base::Bytes;
 use decisions::Work;
 use site_events::Reply;
-use site_types::{Run, Step, StepKind};
-
-// The runs of a put's step.
-fn runs_of(step: &Step) -> &[Run]
-    ensures { result.now ≡ put_runs step.now }
-{
-    match &step.kind {
-        StepKind::Put(put) => put.runs.as_slice(),
-        _ => &[],
-    }
-}
+use site_state::runs_of;
+use site_types::Step;
 
 /// Does the work of a step. It gives what is replied once the step is made.
 pub fn do_work<B: Bank>(bank: &mut B, step: &Step, work: Work) -> Result<Reply, BankFailed>

@@ -1,5 +1,5 @@
 -- Each file has all its bytes after each step.
-use Rattle.std.proofs.Common.{◌≡◌, inl, inr, ℕ, ◌==◌, Bool, true, false, not, cond, List, [], ◌∷◌, length, map, Option, Some, None, refl, sym, ◌∙◌, ap, subst}
+use Rattle.std.proofs.Common.{◌≡◌, inl, inr, ℕ, Bool, not, cond, List, [], ◌∷◌, length, Option, Some, None, refl, sym, ◌∙◌, ap, subst}
 use Rattle.std.specs.Option.{option_map_or}
 use Rattle.std.specs.List.{AllByRecursion}
 use Rattle.std.proofs.lemmas.Bool.{cases_eq, eq-eqb, ne_eqb}
@@ -9,13 +9,15 @@ use Rattle.site_types.specs.declared.step.StepKind.{StepKind}
 use Rattle.site_types.specs.declared.step.StepKind.TheVariants.{Configured, Put, Accessed, Removed}
 use Rattle.site_history.specs.Terms.{Terms}
 use Rattle.site_history.specs.Site.{FileBytes, Site, file_at, bytes_of}
-use Rattle.site_history.specs.Changes.{with_file, without_file, with_bytes, without_bytes}
+use Rattle.site_history.specs.Changes.{with_file, without_file, changed_at, with_bytes, without_bytes}
 use Rattle.site_history.specs.PutSteps.{stored_file}
-use Rattle.site_history.specs.AccessedSteps.{accessed_by}
+use Rattle.site_history.specs.AccessedSteps.{accessed_at}
 use Rattle.site_history.specs.Steps.{HistoryStep, effect, IsLegal, HasBytes}
 use Rattle.site_history.specs.Kept.{HaveAllBytes}
 use Rattle.site_history.proofs.ByteLaws.{bytes_of-with_same, bytes_of-with_other, bytes_of-without}
 use Rattle.site_history.proofs.DistinctInodes.{HasNone, AreDistinct}
+use Rattle.site_history.proofs.ChangedFiles.{LeavesBytes, all-changed}
+use Rattle.site_history.proofs.FileChanges.{accessed_leaves}
 
 -- these files have all their bytes
 abbrev HaveBytes : List FileBytes → List FileRec → Type 0
@@ -48,17 +50,11 @@ module _ (new : FileRec) (bytes : FileBytes) (contents : List FileBytes) (same :
         (ap length (bytes_of-with_other bytes contents file.inode (λ e. other (e ∙ sym same))) ∙ h.0, put_have files distinct.1 h.1)
   ]
 
-accessed_has : (moment inode : ℕ) (contents : List FileBytes) (file : FileRec) → length (bytes_of contents file.inode) ≡ file.length
-    → length (bytes_of contents (accessed_by moment inode file).inode) ≡ (accessed_by moment inode file).length
-accessed_has moment inode contents file h = by_test (file.inode == inode)
-  where
-    by_test : (b : Bool) → length (bytes_of contents (cond b (record file { accessed = moment }) file).inode) ≡ (cond b (record file { accessed = moment }) file).length
-    by_test true = h
-    by_test false = h
-
-accessed_have : (moment inode : ℕ) (contents : List FileBytes) (files : List FileRec) → HaveBytes contents files → HaveBytes contents (map (accessed_by moment inode) files)
-accessed_have moment inode contents [] h = tt
-accessed_have moment inode contents (file ∷ files) h = (accessed_has moment inode contents file h.0, accessed_have moment inode contents files h.1)
+changed_have : (inode : ℕ) (change : FileRec → FileRec) → LeavesBytes change → (contents : List FileBytes) (files : List FileRec) → HaveBytes contents files
+    → HaveBytes contents (changed_at inode change files)
+changed_have inode change leaves contents files h = all-changed inode change (λ (file : FileRec). length (bytes_of contents file.inode) ≡ file.length)
+    (λ (file : FileRec). length (bytes_of contents file.inode) ≡ file.length) files
+    (λ file has. ap (λ (i : ℕ). length (bytes_of contents i)) (leaves.inode file) ∙ has ∙ sym (leaves.length file)) (λ file has. has) h
 
 removed_have : (inode : ℕ) (contents : List FileBytes) (files : List FileRec) → HaveBytes contents files → HaveBytes (without_bytes inode contents) (without_file inode files)
 removed_have inode contents [] h = tt
@@ -77,7 +73,7 @@ bytes_by terms site moment (Put put) bytes distinct h legal has =
     let o = file_at put.path site.fields.files in
     put_have (stored_file o moment put) (record { inode = put.inode; bytes = bytes }) site.contents
     (stored_inode o moment site.fields.next_inode put legal.2.inode) (has ∙ sym (stored_length o moment put)) site.fields.files distinct h
-bytes_by terms site moment (Accessed inode) bytes distinct h legal has = accessed_have moment inode site.contents site.fields.files h
+bytes_by terms site moment (Accessed inode) bytes distinct h legal has = changed_have inode (accessed_at moment) (accessed_leaves moment) site.contents site.fields.files h
 bytes_by terms site moment (Removed inode) bytes distinct h legal has = removed_have inode site.contents site.fields.files h
 bytes_by terms site moment (Configured texts) bytes distinct h legal has = h
 bytes_by terms site moment _ bytes distinct h legal has = absurd legal.2

@@ -1,14 +1,13 @@
--- Files by inode. Their inodes rise, so that each is that of one file; and what a put, a read and a removal do to the list of
--- files is one edit of it, as code makes it: `with_file-new` for a push, `with_file-set` and `accessed-set` for `files[i] = ..`,
--- `without_file-remove` for `files.remove(i)`.
-use Rattle.std.proofs.Common.{◌≡◌, ℕ, ◌+◌, ◌<◌, ◌≤◌, zero, suc, List, [], ◌∷◌, ◌++◌, length, get_or, set, map, refl, ◌∙◌, ap, arith, Bool, true, false, cond, not}
+-- Files by inode. Their inodes rise, so that each is that of one file; and what a put and a removal do to the list of files is
+-- one edit of it, as code makes it: `with_file-new` for a push, `with_file-set` for `files[i] = ..`, `without_file-remove` for
+-- `files.remove(i)`.
+use Rattle.std.proofs.Common.{◌≡◌, ℕ, ◌+◌, ◌<◌, ◌≤◌, zero, suc, List, [], ◌∷◌, ◌++◌, length, get_or, set, refl, ◌∙◌, ap, arith, Bool, true, false, cond, not}
 use Rattle.std.specs.Prelude.{◌==◌}
 use Rattle.std.specs.List.{AllByRecursion, remove}
 use Rattle.std.proofs.lemmas.Bool.{eq-eqb, ne_eqb, eqb-false}
 use Rattle.site_types.specs.declared.file.FileRec.{FileRec}
 use Rattle.site_history.specs.Kept.{AreBelow, AreRisingFrom}
 use Rattle.site_history.specs.Changes.{with_file, without_file}
-use Rattle.site_history.specs.AccessedSteps.{accessed_by}
 
 pub rising-lower : (low high : ℕ) (files : List FileRec) → low ≤ high → AreRisingFrom high files → AreRisingFrom low files
 rising-lower low high [] le h = tt
@@ -46,25 +45,6 @@ with_file-set low new (file ∷ files) (suc i) d h lt e =
     ap (λ (b : Bool). cond b (new ∷ files) (file ∷ with_file new files)) (ne_eqb file.inode new.inode (λ same. omega (arith, same, e, above)))
     ∙ ap (λ (l : List FileRec). file ∷ l) (with_file-set (file.inode + 1) new files i d h.1 (omega arith) e)
 
--- no file behind has an inode that is lower
-accessed-none : (low moment inode : ℕ) (files : List FileRec) → AreRisingFrom low files → inode < low → map (accessed_by moment inode) files ≡ files
-accessed-none low moment inode [] h lt = refl
-accessed-none low moment inode (file ∷ files) h lt =
-    ap (λ (b : Bool). cond b (record file { accessed = moment }) file ∷ map (accessed_by moment inode) files) (ne_eqb file.inode inode (λ same. omega (arith, same, h.0)))
-    ∙ ap (λ (l : List FileRec). file ∷ l) (accessed-none (file.inode + 1) moment inode files h.1 (omega (arith, h.0)))
-
--- an access changes the file of that inode alone
-pub accessed-set : (low moment inode : ℕ) (files : List FileRec) (i : ℕ) (d : FileRec) → AreRisingFrom low files → i < length files
-    → (get_or files i d).inode ≡ inode → map (accessed_by moment inode) files ≡ set files i (record (get_or files i d) { accessed = moment })
-accessed-set low moment inode [] i d h lt e = absurd (omega arith)
-accessed-set low moment inode (file ∷ files) zero d h lt e =
-    ap (λ (b : Bool). cond b (record file { accessed = moment }) file ∷ map (accessed_by moment inode) files) (eq-eqb file.inode inode e)
-    ∙ ap (λ (l : List FileRec). (record file { accessed = moment }) ∷ l) (accessed-none (file.inode + 1) moment inode files h.1 (omega (arith, e)))
-accessed-set low moment inode (file ∷ files) (suc i) d h lt e =
-    let above = rising_at (file.inode + 1) files i d h.1 (omega arith) in
-    ap (λ (b : Bool). cond b (record file { accessed = moment }) file ∷ map (accessed_by moment inode) files) (ne_eqb file.inode inode (λ same. omega (arith, same, e, above)))
-    ∙ ap (λ (l : List FileRec). file ∷ l) (accessed-set (file.inode + 1) moment inode files i d h.1 (omega arith) e)
-
 without_file-none : (low inode : ℕ) (files : List FileRec) → AreRisingFrom low files → inode < low → without_file inode files ≡ files
 without_file-none low inode [] h lt = refl
 without_file-none low inode (file ∷ files) h lt =
@@ -92,21 +72,6 @@ pub rising-set : (low : ℕ) (files : List FileRec) (i : ℕ) (d new : FileRec) 
 rising-set low [] i d new e lt h = h
 rising-set low (file ∷ files) zero d new e lt h = (omega (arith, e, h.0), rising-lower (new.inode + 1) (file.inode + 1) files (omega (arith, e)) h.1)
 rising-set low (file ∷ files) (suc i) d new e lt h = (h.0, rising-set (file.inode + 1) files i d new e (omega arith) h.1)
-
-pub accessed-inode : (moment inode : ℕ) (file : FileRec) → (accessed_by moment inode file).inode ≡ file.inode
-accessed-inode moment inode file = by_test (file.inode == inode)
-  where
-    by_test : (b : Bool) → (cond b (record file { accessed = moment }) file).inode ≡ file.inode
-    by_test true = refl
-    by_test false = refl
-
-pub rising-accessed : (low moment inode : ℕ) (files : List FileRec) → AreRisingFrom low files → AreRisingFrom low (map (accessed_by moment inode) files)
-rising-accessed low moment inode [] h = tt
-rising-accessed low moment inode (file ∷ files) h = (
-  omega (arith, accessed-inode moment inode file, h.0),
-  rising-lower ((accessed_by moment inode file).inode + 1) (file.inode + 1) (map (accessed_by moment inode) files) (omega (arith, accessed-inode moment inode file))
-      (rising-accessed (file.inode + 1) moment inode files h.1),
-)
 
 pub rising-without : (low inode : ℕ) (files : List FileRec) → AreRisingFrom low files → AreRisingFrom low (without_file inode files)
 rising-without low inode [] h = tt
@@ -145,15 +110,6 @@ module _ (P Q : FileRec → Type 0) where
   all-set low new (file ∷ files) (suc i) d rising lt e each q h =
       let above = rising_at (file.inode + 1) files i d rising.1 (omega arith) in
       (each file (λ same. omega (arith, same, e, above)) h.0, all-set (file.inode + 1) new files i d rising.1 (omega arith) e each q h.1)
-
-  pub all-accessed : (moment inode : ℕ) (files : List FileRec) → ((file : FileRec) → P file → Q (record file { accessed = moment })) → ((file : FileRec) → P file → Q file)
-      → AllByRecursion P files → AllByRecursion Q (map (accessed_by moment inode) files)
-  all-accessed moment inode [] changed same h = tt
-  all-accessed moment inode (file ∷ files) changed same h = (by_test (file.inode == inode), all-accessed moment inode files changed same h.1)
-    where
-      by_test : (b : Bool) → Q (cond b (record file { accessed = moment }) file)
-      by_test true = changed file h.0
-      by_test false = same file h.0
 
   pub all-without : (inode : ℕ) (files : List FileRec) → ((file : FileRec) → (file.inode ≡ inode → ⊥) → P file → Q file) → AllByRecursion P files → AllByRecursion Q (without_file inode files)
   all-without inode [] each h = tt

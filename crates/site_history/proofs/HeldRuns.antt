@@ -3,8 +3,7 @@
 -- for one that is replaced, whose new runs are held before the old ones are given; `removed-space` for one that is removed, whose
 -- runs are given; `held-set_same` for one whose runs stay. That the runs of two files have no block in common is a part of
 -- `IsKept`.
-use Rattle.std.proofs.Common.{◌≡◌, ℕ, ◌<◌, zero, suc, List, [], ◌∷◌, ◌++◌, length, get_or, set, take, drop, map, refl, sym, ◌∙◌, ap, subst, arith, Bool, true, false, cond, append_assoc}
-use Rattle.std.specs.Prelude.{◌==◌}
+use Rattle.std.proofs.Common.{◌≡◌, ℕ, ◌<◌, zero, suc, List, [], ◌∷◌, ◌++◌, length, get_or, set, take, drop, refl, sym, ◌∙◌, ap, subst, arith, Bool, append_assoc}
 use Rattle.std.specs.List.{remove}
 use Rattle.std.proofs.lemmas.List.{append-nil}
 use Rattle.std.proofs.lemmas.List.Concat.{flat_map-append}
@@ -14,7 +13,6 @@ use Rattle.cache_space.specs.Space.{taken_by, AreThere, AreApart, AreDisjoint}
 use Rattle.cache_space.proofs.HeldBlocks.{AreApart-sym, AreApart-from_append_right, AreThere-append, AreThere-from_append, AreDisjoint-append, AreDisjoint-from_append, taken_by-moved}
 use Rattle.cache_space.proofs.ChangedBlocks.{taken_by-replaced, AreDisjoint-removed, AreApart-removed, AreThere-removed, AreDisjoint-replaced, AreApart-replaced, AreThere-replaced}
 use Rattle.site_history.specs.Site.{held_runs}
-use Rattle.site_history.specs.AccessedSteps.{accessed_by}
 
 held-append : (files more : List FileRec) → held_runs (files ++ more) ≡ held_runs files ++ held_runs more
 held-append files more = flat_map-append (λ (file : FileRec). file.runs) files more
@@ -51,16 +49,6 @@ held-set_same files i d new lt same =
     held-set files i new lt
     ∙ ap (λ (l : List Run). held_runs (take i files) ++ (l ++ held_runs (drop (suc i) files))) same
     ∙ sym (held-at files i d lt)
-
--- an access moves no run
-pub held-accessed : (moment inode : ℕ) (files : List FileRec) → held_runs (map (accessed_by moment inode) files) ≡ held_runs files
-held-accessed moment inode [] = refl
-held-accessed moment inode (file ∷ files) = by_test (file.inode == inode) (held-accessed moment inode files)
-  where
-    by_test : (b : Bool) → held_runs (map (accessed_by moment inode) files) ≡ held_runs files
-        → (cond b (record file { accessed = moment }) file).runs ++ held_runs (map (accessed_by moment inode) files) ≡ file.runs ++ held_runs files
-    by_test true rest = ap (λ (l : List Run). file.runs ++ l) rest
-    by_test false rest = ap (λ (l : List Run). file.runs ++ l) rest
 
 -- what holds of the runs of all files holds of those of the one at a place: they are there, runs that have no block in common
 -- with all of them have none with it, and no two files have one in common

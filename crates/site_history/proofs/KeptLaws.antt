@@ -2,7 +2,7 @@
 -- file that a path finds, `there-file` of the file of an inode that is there, and `placed-file` and `indexed-file` of the file at
 -- a place of the list, as code has it.
 use Rattle.std.proofs.Common.{◌≡◌, ℕ, ◌+◌, ◌<◌, ◌≤◌, ◌^◌, ◌/◌, List, [], ◌∷◌, ◌++◌, length, get_or, set, refl, sym, ◌∙◌, ap, subst, arith, Option, Some, None, length-append}
-use Rattle.std.specs.Prelude.{MatchOption, ◌==◌, find, IsTrue}
+use Rattle.std.specs.Prelude.{MatchOption, ◌==◌, find, IsTrue, if◌then◌else◌}
 use Rattle.std.specs.Option.{option_map_or}
 use Rattle.std.specs.Str.{bytes_eq}
 use Rattle.std.specs.List.{remove}
@@ -27,54 +27,22 @@ use Rattle.cache_space.proofs.HeldBlocks.{AreThere-nil}
 use Rattle.cache_space.proofs.LowestRuns.{AreMaximal-disjoint}
 use Rattle.site_history.specs.Terms.{Terms}
 use Rattle.site_history.specs.Site.{Fields, Site, first_fields, file_at, held_runs, cache_blocks, bytes_of}
-use Rattle.site_history.specs.Changes.{with_file, without_file, without_inode, IsThere}
+use Rattle.site_history.specs.Changes.{with_file, without_file, with_change, without_inode, IsThere}
 use Rattle.site_history.specs.PutSteps.{stored_file, put_effect, IsLegalPut}
-use Rattle.site_history.specs.AccessedSteps.{accessed_by, accessed_effect}
+use Rattle.site_history.specs.AccessedSteps.{accessed_at}
 use Rattle.site_history.specs.RemovedSteps.{removed_effect}
 use Rattle.site_history.specs.ConfiguredSteps.{configured_effect, IsLegalConfiguration}
 use Rattle.site_history.specs.Steps.{HistoryStep, dated, fields_after, effect, IsLegal, HasBytes}
 use Rattle.site_history.specs.Histories.{after, IsHistory}
 use Rattle.site_history.specs.Kept.{AreBelow, IsFileKept, IsKept, HaveAllBytes}
 use Rattle.site_history.proofs.HistoryLaws.{history-counts}
-use Rattle.site_history.proofs.FileLaws.{are_below-more, with_file-new, with_file-set, without_file-remove, rising_at, below_at, rising-push, rising-set, rising-accessed, rising-without, all-push, all-below, all-set, all-accessed, all-without, all_at, length-without}
+use Rattle.site_history.proofs.FileLaws.{are_below-more, with_file-new, with_file-set, without_file-remove, rising_at, below_at, rising-push, rising-set, rising-without, all-push, all-below, all-set, all-without, all_at, length-without}
+use Rattle.site_history.proofs.ChangedFiles.{LeavesBytes, rising-changed, all-changed, held-changed}
+use Rattle.site_history.proofs.FileChanges.{kept-later, accessed_leaves, kept-accessed}
 use Rattle.site_history.proofs.DistinctInodes.{AreDistinct, rising_distinct}
-use Rattle.site_history.proofs.HeldRuns.{held-accessed, there-at, pushed-disjoint, pushed-there, replaced-disjoint, replaced-there, removed-disjoint, removed-there}
+use Rattle.site_history.proofs.HeldRuns.{there-at, pushed-disjoint, pushed-there, replaced-disjoint, replaced-there, removed-disjoint, removed-there}
 use Rattle.site_history.proofs.Finds.{StandsAt, stands-at, found-stands, any-stands, find-inode, any-inode}
 use Rattle.site_history.proofs.ByteEffects.{bytes_effect}
-
--- a file is kept by a later step that leaves it
-kept-later : (count moment later : ℕ) (file : FileRec) → moment ≤ later → IsFileKept count moment file → IsFileKept (count + 1) later file
-kept-later count moment later file le kept = record {
-  path = kept.path;
-  owner = kept.owner;
-  group = kept.group;
-  cached = kept.cached;
-  small = kept.small;
-  maximal = kept.maximal;
-  blocks = kept.blocks;
-  from_one = kept.from_one;
-  generation = omega (arith, kept.generation);
-  modified = omega (arith, kept.modified);
-  accessed = omega (arith, kept.accessed);
-  resided = omega (arith, kept.resided);
-}
-
--- also where the step is an access of it
-kept-accessed : (count moment later : ℕ) (file : FileRec) → moment ≤ later → IsFileKept count moment file → IsFileKept (count + 1) later (record file { accessed = later })
-kept-accessed count moment later file le kept = record {
-  path = kept.path;
-  owner = kept.owner;
-  group = kept.group;
-  cached = kept.cached;
-  small = kept.small;
-  maximal = kept.maximal;
-  blocks = kept.blocks;
-  from_one = kept.from_one;
-  generation = omega (arith, kept.generation);
-  modified = omega (arith, kept.modified);
-  accessed = omega arith;
-  resided = omega (arith, kept.resided);
-}
 
 -- an empty queue stays empty
 no_queue : (inode : ℕ) (queue : List ℕ) → queue ≡ [] → without_inode inode queue ≡ []
@@ -198,18 +166,20 @@ module _ (count : ℕ) (fields : Fields) (kept : IsKept count fields) (later : �
     put_kept : (terms : Terms) → IsKept (count + 1) (dated later (put_effect terms later put fields))
     put_kept terms = put_by (file_at put.path fields.files) refl legal.inode legal.fits
 
-  -- a read
-  accessed_kept : (inode : ℕ) → IsKept (count + 1) (dated later (accessed_effect later inode fields))
-  accessed_kept inode = record {
-    rising = rising-accessed 1 later inode fields.files kept.rising;
-    below = all-accessed (λ (f : FileRec). f.inode < fields.next_inode) (λ (f : FileRec). f.inode < fields.next_inode) later inode fields.files (λ f lt. lt) (λ f lt. lt) kept.below;
+  -- a change of one file that keeps it and leaves its bytes
+  changed_kept : (inode : ℕ) (change : FileRec → FileRec) → LeavesBytes change
+      → ((file : FileRec) → IsFileKept count fields.moment file → IsFileKept (count + 1) later (change file))
+      → IsKept (count + 1) (dated later (with_change inode change fields))
+  changed_kept inode change leaves keeps = record {
+    rising = rising-changed inode change leaves 1 fields.files kept.rising;
+    below = all-changed inode change (λ (f : FileRec). f.inode < fields.next_inode) (λ (f : FileRec). f.inode < fields.next_inode) fields.files
+        (λ f lt. omega (arith, lt, leaves.inode f)) (λ f lt. lt) kept.below;
     from_one = kept.from_one;
     small = kept.small;
-    few = omega (arith, kept.few, length-map fields.files (accessed_by later inode));
-    files = all-accessed (IsFileKept count fields.moment) (IsFileKept (count + 1) later) later inode fields.files
-        (λ f k. kept-accessed count fields.moment later f in_time k) (λ f k. stays f k) kept.files;
-    there = subst (λ (l : List Run). AreThere (cache_blocks fields) l) (sym (held-accessed later inode fields.files)) kept.there;
-    disjoint = subst (λ (l : List Run). AreDisjoint l) (sym (held-accessed later inode fields.files)) kept.disjoint;
+    few = omega (arith, kept.few, length-map fields.files (λ (f : FileRec). if f.inode == inode then change f else f));
+    files = all-changed inode change (IsFileKept count fields.moment) (IsFileKept (count + 1) later) fields.files keeps (λ f k. stays f k) kept.files;
+    there = subst (λ (l : List Run). AreThere (cache_blocks fields) l) (sym (held-changed inode change leaves fields.files)) kept.there;
+    disjoint = subst (λ (l : List Run). AreDisjoint l) (sym (held-changed inode change leaves fields.files)) kept.disjoint;
     volumes = kept.volumes;
     queue = kept.queue;
     moment = in_range;
@@ -264,7 +234,8 @@ kept_by : (terms : Terms) (count : ℕ) (fields : Fields) (moment : ℕ) (kind :
 kept_by terms count fields moment (Put put) kept legal =
     put_kept count fields kept moment legal.1 (ranges (record { moment = moment; kind = Put put }) legal.0).0 put legal.2 terms
 kept_by terms count fields moment (Accessed inode) kept legal =
-    accessed_kept count fields kept moment legal.1 (ranges (record { moment = moment; kind = Accessed inode }) legal.0).0 inode
+    changed_kept count fields kept moment legal.1 (ranges (record { moment = moment; kind = Accessed inode }) legal.0).0 inode (accessed_at moment) (accessed_leaves moment)
+    (λ file k. kept-accessed count fields.moment moment file legal.1 k)
 kept_by terms count fields moment (Removed inode) kept legal =
     removed_kept count fields kept moment legal.1 (ranges (record { moment = moment; kind = Removed inode }) legal.0).0 inode legal.2
 kept_by terms count fields moment (Configured texts) kept legal =

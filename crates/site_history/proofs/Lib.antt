@@ -11,6 +11,8 @@ pub mod Reopenings
 pub mod Storing
 pub mod FileReads
 pub mod FileLaws
+pub mod ChangedFiles
+pub mod FileChanges
 pub mod ByteLaws
 pub mod HeldRuns
 pub mod Finds
@@ -18,6 +20,7 @@ pub mod ByteEffects
 pub mod KeptLaws
 pub mod RunRanges
 pub mod StepRanges
+pub mod StepBytes
 pub mod Puts
 pub mod Accesses
 pub mod Configuring
@@ -25,4 +28,5 @@ pub mod WorldLaws
 pub mod Between
 pub mod Turns
 pub mod Answered
+pub mod AnswerReplies
 pub mod Refusing

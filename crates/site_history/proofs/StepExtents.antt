@@ -1,18 +1,19 @@
 -- The bytes of a site still stand after each step.
-use Rattle.std.proofs.Common.{◌≡◌, inl, inr, ℕ, Bool, true, false, not, cond, ◌==◌, List, [], ◌∷◌, length, take, map, Option, Some, None, refl, sym, ◌∙◌, ap, subst, arith}
+use Rattle.std.proofs.Common.{◌≡◌, inl, inr, ℕ, Bool, true, false, not, cond, ◌==◌, List, [], ◌∷◌, length, take, Option, Some, None, refl, sym, ◌∙◌, ap, subst, arith}
 use Rattle.std.specs.Prelude.{flat_map}
 use Rattle.std.proofs.lemmas.Bool.{cases_eq, eq-eqb, ne_eqb}
 use Rattle.std.proofs.lemmas.List.{take_all}
 use Rattle.bank.specs.View.{View}
 use Rattle.site_types.specs.declared.file.FileRec.{FileRec}
+use Rattle.site_types.specs.declared.file.Run.{Run}
 use Rattle.site_types.specs.declared.step.PutStep.{PutStep}
 use Rattle.site_types.specs.declared.step.StepKind.{StepKind}
 use Rattle.site_types.specs.declared.step.StepKind.TheVariants.{Configured, Put, Accessed, Removed}
 use Rattle.site_history.specs.Terms.{Terms}
 use Rattle.site_history.specs.Site.{FileBytes, Site, file_at, bytes_of}
-use Rattle.site_history.specs.Changes.{with_file, with_bytes, without_file, without_bytes}
+use Rattle.site_history.specs.Changes.{with_file, with_bytes, without_file, changed_at, without_bytes}
 use Rattle.site_history.specs.Steps.{HistoryStep, effect, IsLegal, HasBytes, step_extents}
-use Rattle.site_history.specs.AccessedSteps.{accessed_by}
+use Rattle.site_history.specs.AccessedSteps.{accessed_at}
 use Rattle.site_history.specs.PutSteps.{stored_file, inode_for, put_effect}
 use Rattle.site_history.specs.Images.{extents_of, extents}
 use Rattle.site_history.specs.Extents.{Extent, extents_over}
@@ -20,6 +21,8 @@ use Rattle.site_history.specs.Pinned.{StandInAll}
 use Rattle.site_history.proofs.ByteEffects.{stored_inode}
 use Rattle.site_history.proofs.Extents.{stand_append, stand_front, stand_back}
 use Rattle.site_history.proofs.DistinctInodes.{HasNone, AreDistinct}
+use Rattle.site_history.proofs.ChangedFiles.{LeavesBytes}
+use Rattle.site_history.proofs.FileChanges.{accessed_leaves}
 use Rattle.site_history.proofs.FileBytesLaws.{bytes_of-with, bytes_of-with_other, bytes_of-without}
 
 -- Where the bytes of an inode are the same, so are the extents of its file.
@@ -62,20 +65,22 @@ module _ (v : View) where
         (with_stands new bytes contents files same distinct.1 ready (stand_back v (extents_of contents file) (flat_map (extents_of contents) files) h)))
   ]
 
-  -- A file that was read keeps its bytes at their place.
-  accessed_extents : (moment inode : ℕ) (contents : List FileBytes) (file : FileRec) → extents_of contents (accessed_by moment inode file) ≡ extents_of contents file
-  accessed_extents moment inode contents file = by_test (file.inode == inode)
-    where
-      by_test : (b : Bool) → extents_of contents (cond b (record file { accessed = moment }) file) ≡ extents_of contents file
-      by_test true = refl
-      by_test false = refl
+  -- A file that is changed keeps its bytes at their place.
+  module _ (inode : ℕ) (change : FileRec → FileRec) (leaves : LeavesBytes change) (contents : List FileBytes) where
+    changed_extents : (file : FileRec) (b : Bool) → extents_of contents (cond b (change file) file) ≡ extents_of contents file
+    changed_extents file true =
+        ap (λ (runs : List Run). extents_over runs (take (change file).cached (bytes_of contents (change file).inode))) (leaves.runs file)
+        ∙ ap (λ (n : ℕ). extents_over file.runs (take n (bytes_of contents (change file).inode))) (leaves.cached file)
+        ∙ ap (λ (i : ℕ). extents_over file.runs (take file.cached (bytes_of contents i))) (leaves.inode file)
+    changed_extents file false = refl
 
-  pub accessed_stands : (moment inode : ℕ) (contents : List FileBytes) (files : List FileRec) → StandInAll v (flat_map (extents_of contents) files)
-      → StandInAll v (flat_map (extents_of contents) (map (accessed_by moment inode) files))
-  accessed_stands moment inode contents [] h = tt
-  accessed_stands moment inode contents (file ∷ files) h = stand_append v (extents_of contents (accessed_by moment inode file)) (flat_map (extents_of contents) (map (accessed_by moment inode) files))
-      (subst (λ (es : List Extent). StandInAll v es) (sym (accessed_extents moment inode contents file)) (stand_front v (extents_of contents file) (flat_map (extents_of contents) files) h))
-      (accessed_stands moment inode contents files (stand_back v (extents_of contents file) (flat_map (extents_of contents) files) h))
+    changed_stands : (files : List FileRec) → StandInAll v (flat_map (extents_of contents) files) → StandInAll v (flat_map (extents_of contents) (changed_at inode change files))
+    changed_stands [] h = tt
+    changed_stands (file ∷ files) h =
+        let now = cond (file.inode == inode) (change file) file in
+        stand_append v (extents_of contents now) (flat_map (extents_of contents) (changed_at inode change files))
+        (subst (λ (es : List Extent). StandInAll v es) (sym (changed_extents file (file.inode == inode))) (stand_front v (extents_of contents file) (flat_map (extents_of contents) files) h))
+        (changed_stands files (stand_back v (extents_of contents file) (flat_map (extents_of contents) files) h))
 
   -- The other files keep theirs where one is removed.
   pub removed_stands : (inode : ℕ) (contents : List FileBytes) (files : List FileRec) → StandInAll v (flat_map (extents_of contents) files)
@@ -119,7 +124,7 @@ effect_stands terms v made site distinct legal bytes h ready = by_kind made.step
         → StandInAll v (extents (effect terms (record { step = record { moment = moment; kind = kind }; bytes = l }) site))
     by_kind (Put put) moment l legal long ready =
         put_stands terms v moment put l site distinct legal.2.inode long h ready
-    by_kind (Accessed inode) moment l legal long ready = accessed_stands v moment inode site.contents site.fields.files h
+    by_kind (Accessed inode) moment l legal long ready = changed_stands v inode (accessed_at moment) (accessed_leaves moment) site.contents site.fields.files h
     by_kind (Removed inode) moment l legal long ready = removed_stands v inode site.contents site.fields.files h
     by_kind (Configured texts) moment l legal long ready = h
     by_kind _ moment l legal long ready = absurd legal.2

@@ -1,7 +1,6 @@
 -- The steps are in range, and short enough for a record. `put_in_range` and `put_short` serve the code that writes a put's step
 -- down, which knows the rules that it tested; `configured-range` and `configured-short` that of a configuration, where each text
--- is within its limit; `accessed_in_range` and `removed_in_range` that of a read and of a removal; `legal-payload` any step that
--- may come.
+-- is within its limit; `legal-payload` any step that may come.
 use Rattle.std.proofs.Common.{◌≡◌, ℕ, ◌<◌, ◌≤◌, ◌^◌, List, length, arith, true}
 use Rattle.std.specs.Prelude.{IsTrue}
 use Rattle.std.specs.List.{AllByRecursion}
@@ -54,19 +53,6 @@ module _ (put : PutStep) (small : put.length ≤ 16777216) (legal_path : IsTrue 
   pub put_short : (moment : ℕ) → step_length (step_of moment put) ≤ 1048576
   put_short moment = omega (arith, path_short put.path legal_path, name_short put.owner legal_owner, name_short put.group legal_group, few, small)
 
--- a read and a removal
-pub accessed_in_range : (moment inode : ℕ) → moment < 2 ^ 40 → IsInode inode → InRange (record { moment = moment; kind = Accessed inode })
-accessed_in_range moment inode range is = in_range (record { moment = moment; kind = Accessed inode }) range is
-
-pub removed_in_range : (moment inode : ℕ) → moment < 2 ^ 40 → IsInode inode → InRange (record { moment = moment; kind = Removed inode })
-removed_in_range moment inode range is = in_range (record { moment = moment; kind = Removed inode }) range is
-
-pub accessed_short : (moment inode : ℕ) → step_length (record { moment = moment; kind = Accessed inode }) ≤ 1048576
-accessed_short moment inode = omega arith
-
-pub removed_short : (moment inode : ℕ) → step_length (record { moment = moment; kind = Removed inode }) ≤ 1048576
-removed_short moment inode = omega arith
-
 -- a configuration by texts within their limits
 pub configured-range : (moment : ℕ) (texts : SiteTexts) → moment < 2 ^ 40 → AreWithin texts → InRange (record { moment = moment; kind = Configured texts })
 configured-range moment texts range within = in_range (record { moment = moment; kind = Configured texts }) range (
@@ -88,8 +74,8 @@ legal_short : (terms : Terms) (fields : Fields) (moment : ℕ) (kind : StepKind)
 legal_short terms fields moment (Put put) legal =
     put_short put legal.2.small legal.2.path legal.2.owner legal.2.group
     (omega (arith, maximal-few put.runs legal.2.maximal, legal.2.blocks)) moment
-legal_short terms fields moment (Accessed inode) legal = accessed_short moment inode
-legal_short terms fields moment (Removed inode) legal = removed_short moment inode
+legal_short terms fields moment (Accessed inode) legal = omega arith
+legal_short terms fields moment (Removed inode) legal = omega arith
 legal_short terms fields moment (Configured texts) legal = configured-short moment texts legal.2.within
 legal_short terms fields moment _ legal = absurd legal.2
 

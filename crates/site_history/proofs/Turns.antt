@@ -1,18 +1,16 @@
 -- What one event does to a world, in the form of a turn: a lemma for each exit of the code that serves it. First what the
 -- answer to the event is (`put-refused`, `put-stored`, `read-missing`, `read-found`, `remove-missing`, `remove-found`,
--- `configure-refused`, `configure-made`, `other-answer`), and from that the turn: `answer-turn` where no step is made, `full-turn`
--- where the journal has no room, `made-turn` where the step is acknowledged, `owes-turn` where the journal failed, `fails-turn` where
--- another area did, `memory-turn` where memory was wanting.
+-- `configure-refused`, `configure-made`), and from that the turn: `answer-turn` where no step is made, `full-turn` where the journal
+-- has no room, `made-turn` where the step is acknowledged, `owes-turn` where the journal failed, `fails-turn` where another area did.
 use Rattle.std.proofs.Common.{◌≡◌, ℕ, ◌+◌, ◌<◌, ◌≤◌, List, length, take, refl, sym, ◌∙◌, ap, subst, arith, Bool, true, false, cond, Option, Some, None}
 use Rattle.std.specs.Prelude.{is_none, IsTrue}
 use Rattle.std.proofs.lemmas.Bool.{le-leb, lt-leb, eq-eqb, ne_eqb}
 use Rattle.site_events.specs.declared.event.Event.{Event}
 use Rattle.site_events.specs.declared.event.Event.TheVariants.{Put as PutEvent, Read as ReadEvent, Remove as RemoveEvent, Configure as ConfigureEvent}
 use Rattle.site_events.specs.declared.reply.Reply.{Reply}
-use Rattle.site_events.specs.declared.reply.Reply.TheVariants.{Stored, Done, Bytes, Line, NoMemory, JournalFull, BankFault}
+use Rattle.site_events.specs.declared.reply.Reply.TheVariants.{Stored, Done, Bytes, JournalFull, BankFault}
 use Rattle.site_events.specs.declared.reply.Rule.{Rule}
 use Rattle.site_events.specs.declared.reply.Rule.TheVariants.{NoFile}
-use Rattle.site_events.specs.declared.reply.LineRefusal.TheVariants.{NotACommand}
 use Rattle.site_types.specs.declared.file.FileRec.{FileRec}
 use Rattle.site_types.specs.declared.file.SiteTexts.{SiteTexts}
 use Rattle.site_types.specs.declared.step.StepKind.TheVariants.{Configured, Accessed, Removed}
@@ -68,16 +66,6 @@ module _ (terms : Terms) (site : Site) (running : Running) (moment : ℕ) where
       → answer_to terms site running moment (ConfigureEvent texts) ≡ makes running (Done 0) (bare_step moment (Configured texts))
   configure-made texts e = ap (λ (o : Option Reply). configure_answer_by o running moment texts) e
 
-  -- an event of another kind
-  pub other-answer : (event : Event) → ((path owner group bytes : List ℕ) → event ≡ PutEvent path owner group bytes → ⊥)
-      → ((path : List ℕ) (upto : ℕ) → event ≡ ReadEvent path upto → ⊥) → ((path : List ℕ) → event ≡ RemoveEvent path → ⊥)
-      → ((texts : SiteTexts) → event ≡ ConfigureEvent texts → ⊥) → answer_to terms site running moment event ≡ tells running (Line NotACommand)
-  other-answer (PutEvent path owner group bytes) put read remove configure = absurd (put path owner group bytes refl)
-  other-answer (ReadEvent path upto) put read remove configure = absurd (read path upto refl)
-  other-answer (RemoveEvent path) put read remove configure = absurd (remove path refl)
-  other-answer (ConfigureEvent texts) put read remove configure = absurd (configure texts refl)
-  other-answer _ put read remove configure = refl
-
 -- The answer of a journal with and without room.
 
 abbrev roomed : Terms → World → Answer → Answer
@@ -124,10 +112,6 @@ module _ (terms : Terms) (told : Bool) (w : World) (event : Event) (moment area 
   answer-turn reply e course = subst (λ (c : Course). TurnBy c told (answer_in terms w moment event) w event moment reply (at_moment moment w)) (sym course)
       (goes (tells w.running reply) reply
       (ap (λ (a : Answer). roomed terms w a) e ∙ without_step terms w (tells w.running reply) refl) (is_reply told reply reply refl))
-
-  -- memory was wanting
-  pub memory-turn : Turn terms told w event moment area NoMemory (at_moment moment w)
-  memory-turn = refl
 
   -- another area than the journal failed
   pub fails-turn : (area ≡ 0 → ⊥) → Turn terms told w event moment area BankFault (failed_in event moment w)

@@ -1,5 +1,5 @@
 -- Changes of the files, their bytes and the queue, of which the effects of steps are made.
-use Rattle.std.specs.Prelude.{ℕ, ◌==◌, not, if◌then◌else◌, List, [], ◌∷◌, filter}
+use Rattle.std.specs.Prelude.{ℕ, ◌==◌, not, if◌then◌else◌, List, [], ◌∷◌, map, filter}
 use Rattle.std.specs.List.{list_any}
 use Rattle.std.specs.Prelude.{IsTrue}
 use Rattle.site_types.specs.declared.file.FileRec.{FileRec}
@@ -12,6 +12,14 @@ with_file new (file ∷ files) = if file.inode == new.inode then new ∷ files e
 
 abbrev pub without_file : ℕ → List FileRec → List FileRec
 without_file inode files = filter (λ (file : FileRec). not (file.inode == inode)) files
+
+-- the files, that of an inode changed
+abbrev pub changed_at : ℕ → (FileRec → FileRec) → List FileRec → List FileRec
+changed_at inode change files = map (λ (file : FileRec). if file.inode == inode then change file else file) files
+
+-- the fields, that file changed
+abbrev pub with_change : ℕ → (FileRec → FileRec) → Fields → Fields
+with_change inode change fields = record fields { files = changed_at inode change fields.files }
 
 abbrev pub with_bytes : FileBytes → List FileBytes → List FileBytes
 with_bytes new [] = new ∷ []

@@ -1,5 +1,6 @@
 -- The steps of a site, a row for each kind: which may come, what each changes, and the bytes that it needs in the store.
 use Rattle.std.specs.Prelude.{◌≡◌, ℕ, ◌≤◌, List, [], length}
+use Rattle.site_types.specs.declared.file.Run.{Run}
 use Rattle.site_types.specs.declared.step.Step.{Step}
 use Rattle.site_types.specs.declared.step.StepKind.{StepKind}
 use Rattle.site_types.specs.declared.step.StepKind.TheVariants.{Configured, Put, Accessed, Removed}
@@ -67,6 +68,14 @@ abbrev pub HasBytes : HistoryStep → Type 0
 HasBytes made = HasBytesOf made.bytes made.step.kind
 
 -- ---- the bytes that it needs in the store
+
+-- the runs at which its bytes are stored: a put has some, and no other step has any
+abbrev pub runs_by : StepKind → List Run
+runs_by (Put put) = put.runs
+runs_by _ = []
+
+abbrev pub put_runs : Step → List Run
+put_runs step = runs_by step.kind
 
 abbrev pub extents_by : List ℕ → StepKind → Site → List Extent
 extents_by bytes (Put put) site = put_extents put bytes

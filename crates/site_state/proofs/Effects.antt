@@ -1,5 +1,5 @@
 -- What the code's changes of the files and of the space make, in the words of steps.
-use Rattle.std.proofs.Common.{◌≡◌, ℕ, ◌+◌, ◌<◌, ◌≤◌, ◌^◌, min, List, [], ◌∷◌, ◌++◌, length, get_or, set, map, sym, ◌∙◌, ap, subst, arith, Bool, true, false, Option, Some, None, eqb-true}
+use Rattle.std.proofs.Common.{◌≡◌, ℕ, ◌+◌, ◌<◌, ◌≤◌, ◌^◌, min, List, [], ◌∷◌, ◌++◌, length, get_or, set, sym, ◌∙◌, ap, subst, arith, Bool, true, false, Option, Some, None, eqb-true}
 use Rattle.std.specs.Prelude.{All, ◌==◌, position, slice_get, remove, is_some}
 use Rattle.std.specs.List.{list_any}
 use Rattle.std.specs.Option.{option_map_or}
@@ -10,10 +10,11 @@ use Rattle.site_types.specs.declared.file.Run.{Run}
 use Rattle.cache_space.specs.Space.{taken_by, AreApart}
 use Rattle.site_history.specs.Terms.{Terms}
 use Rattle.site_history.specs.Site.{Fields, file_at, held_runs, cache_blocks}
-use Rattle.site_history.specs.Changes.{with_file, without_file, IsThere}
+use Rattle.site_history.specs.Changes.{with_file, without_file, changed_at, with_change, IsThere}
 use Rattle.site_history.specs.PutSteps.{stored_file, IsLegalPut, next_after, put_effect}
-use Rattle.site_history.specs.AccessedSteps.{accessed_by}
-use Rattle.site_history.proofs.FileLaws.{with_file-new, with_file-set, accessed-set, without_file-remove, all_at, below_at}
+use Rattle.site_history.specs.Steps.{dated}
+use Rattle.site_history.proofs.FileLaws.{with_file-new, with_file-set, without_file-remove, all_at, below_at}
+use Rattle.site_history.proofs.ChangedFiles.{LeavesBytes, changed-set, held-changed}
 use Rattle.site_history.specs.Kept.{AreBelow, IsKept, IsFileKept}
 use Rattle.site_history.proofs.HeldRuns.{held-push, replaced-taken, replaced-apart, removed-taken, removed-apart}
 use Rattle.site_state.specs.declared.state.SiteState.{SiteState}
@@ -51,17 +52,29 @@ module _ (count : ℕ) (fields : Fields) (kept : IsKept count fields) (old : Sit
     of_inode : (get_or fields.files index at.item).inode ≡ inode
     of_inode = ap (λ (f : FileRec). f.inode) (here at.item) ∙ eqb-true at.item.inode inode at.passes
 
-    -- an access is one change in the list
-    pub accessed_list : (moment : ℕ) (new : List FileRec)
-        → ((file : FileRec) → slice_get old.files.list index ≡ Some file → new ≡ set old.files.list index (record file { accessed = moment }))
-        → new ≡ map (accessed_by moment inode) fields.files
-    accessed_list moment new changed =
+    -- a change of that file is one change in the list
+    changed_list : (change : FileRec → FileRec) (new : List FileRec) → ((file : FileRec) → slice_get old.files.list index ≡ Some file → new ≡ set old.files.list index (change file))
+        → new ≡ changed_at inode change fields.files
+    changed_list change new changed =
         changed at.item (first-slice_get (λ (file : FileRec). file.inode == inode) old.files.list index at)
-        ∙ ap (λ (l : List FileRec). set l index (record at.item { accessed = moment })) keeps.files
-        ∙ ap (λ (f : FileRec). set fields.files index (record f { accessed = moment })) (sym (here at.item))
-        ∙ sym (accessed-set 1 moment inode fields.files index at.item kept.rising within_fields of_inode)
+        ∙ ap (λ (l : List FileRec). set l index (change at.item)) keeps.files
+        ∙ ap (λ (f : FileRec). set fields.files index (change f)) (sym (here at.item))
+        ∙ sym (changed-set inode change 1 fields.files index at.item kept.rising within_fields of_inode)
 
-    -- and so is a removal
+    -- and where it leaves the file's bytes, it is all that changes, but for the moment
+    pub changed_keeps : (moment : ℕ) (change : FileRec → FileRec) → LeavesBytes change → (new : SiteState)
+        → ((file : FileRec) → slice_get old.files.list index ≡ Some file → new.files.list ≡ set old.files.list index (change file))
+        → new.next_inode ≡ old.next_inode → new.moment ≡ moment → new.configuration ≡ old.configuration → new.space ≡ old.space
+        → Keeps new (dated moment (with_change inode change fields))
+    changed_keeps moment change leaves new changed next_inode at_moment configuration space = record {
+      files = changed_list change new.files.list changed;
+      next_inode = next_inode ∙ keeps.next_inode;
+      moment = at_moment;
+      configuration = configuration ∙ keeps.configuration;
+      space = space ∙ keeps.space ∙ ap (λ (l : List Run). taken_by (cache_blocks fields) l) (sym (held-changed inode change leaves fields.files));
+    }
+
+    -- a removal is one change in the list too
     pub removed_list : (new : List FileRec) → new ≡ remove old.files.list index → new ≡ without_file inode fields.files
     removed_list new changed =
         changed

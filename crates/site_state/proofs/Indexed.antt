@@ -1,5 +1,5 @@
 -- The files' fields after each edit: they are still indexed.
-use Rattle.std.proofs.Common.{◌≡◌, ℕ, ◌<◌, ◌≤◌, List, [], ◌∷◌, ◌++◌, length, get_or, refl, sym, ◌∙◌, ap, subst, Some}
+use Rattle.std.proofs.Common.{◌≡◌, ℕ, ◌<◌, ◌≤◌, List, [], ◌∷◌, ◌++◌, length, get_or, set, refl, sym, ◌∙◌, ap, subst, Some}
 use Rattle.std.specs.Prelude.{All, slice_get, insert, remove}
 use Rattle.std.specs.Vec.{with_item}
 use Rattle.std.proofs.lemmas.List.Elements.{All-set, All-push}
@@ -15,6 +15,12 @@ use Rattle.site_state.proofs.PathIndex.{rise-set, index-set, rise-push, index-pu
 -- the file that stands at a place is the one that the code reads there
 pub file_there : (items list : List FileRec) (index : ℕ) (now file : FileRec) → items ≡ list → now ≡ get_or items index now → slice_get list index ≡ Some file → now ≡ file
 file_there items list index now file same is there = is ∙ ap (λ (l : List FileRec). get_or l index now) same ∙ get_or_from_slice_get list index file now there
+
+-- one change of the file at a place, as the code makes it, is that of the file that stands there
+pub changed_there : (items list : List FileRec) (index : ℕ) (now : FileRec) (change : FileRec → FileRec) → items ≡ list → now ≡ get_or items index now
+    → (file : FileRec) → slice_get list index ≡ Some file → set items index (change now) ≡ set list index (change file)
+changed_there items list index now change same is file there =
+    ap (λ (l : List FileRec). set l index (change now)) same ∙ ap (λ (f : FileRec). set list index (change f)) (file_there items list index now file same is there)
 
 module _ (files : Inside) (indexed : AreIndexed files) where
   -- a file was written over by one of its inode and its path

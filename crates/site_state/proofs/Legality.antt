@@ -6,9 +6,8 @@ use Rattle.std.specs.Str.{bytes_eq}
 use Rattle.std.proofs.lemmas.Bool.Decides.{nat_tests}
 use Rattle.site_types.specs.declared.file.FileRec.{FileRec}
 use Rattle.site_types.specs.declared.file.SiteTexts.{SiteTexts}
-use Rattle.site_types.specs.declared.step.PutStep.{PutStep}
 use Rattle.site_types.specs.declared.step.StepKind.{StepKind}
-use Rattle.site_types.specs.declared.step.StepKind.TheVariants.{Configured, Put, Accessed, Removed}
+use Rattle.site_types.specs.declared.step.StepKind.TheVariants.{Configured}
 use Rattle.site_history.specs.Terms.{Terms}
 use Rattle.site_history.specs.Site.{Fields, file_at}
 use Rattle.configuration.specs.ConfigurationSteps.{refusal_of}
@@ -100,13 +99,3 @@ pub then_legal : (terms : Terms) (fields : Fields) (moment : ℕ) (kind : StepKi
     → IsLegalSoFar terms fields (record { moment = moment; kind = kind }) → IsLegal terms fields (record { moment = moment; kind = kind })
 then_legal terms fields moment (Configured texts) read so_far = (so_far.0, so_far.1, record { no_file = so_far.2; within = so_far.3; read = read texts refl })
 then_legal terms fields moment _ read so_far = so_far
-
--- a step of a kind that is not served never may come
-pub not_served : (terms : Terms) (fields : Fields) (moment : ℕ) (kind : StepKind) → ((texts : SiteTexts) → kind ≡ Configured texts → ⊥)
-    → ((put : PutStep) → kind ≡ Put put → ⊥)
-    → ((inode : ℕ) → kind ≡ Accessed inode → ⊥) → ((inode : ℕ) → kind ≡ Removed inode → ⊥) → IsLegal terms fields (record { moment = moment; kind = kind }) → ⊥
-not_served terms fields moment (Configured texts) configured put accessed removed legal = configured texts refl
-not_served terms fields moment (Put fields_of_put) configured put accessed removed legal = put fields_of_put refl
-not_served terms fields moment (Accessed inode) configured put accessed removed legal = accessed inode refl
-not_served terms fields moment (Removed inode) configured put accessed removed legal = removed inode refl
-not_served terms fields moment _ configured put accessed removed legal = legal.2

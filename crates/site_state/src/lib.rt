@@ -10,6 +10,7 @@ mod path_index;
 mod prepare;
 mod replays;
 mod rule;
+mod runs;
 mod state;
 mod stored;
 
@@ -17,4 +18,5 @@ pub use files::Files;
 pub use prepare::{Prepared, Setting};
 pub use replays::ReplayRefusal;
 pub use rule::Place;
+pub use runs::runs_of;
 pub use state::SiteState;

@@ -66,6 +66,17 @@ abbrev AreReaders : ℕ → List (ℕ × Reader) → Type 0
 AreReaders first [] = Unit {0}
 AreReaders first (k ∷ more) = (k.0 ≡ first) × IsReader k.0 k.1 × AreReaders (first + 1) more
 
+pub record Readers (first : ℕ) (rows : List (ℕ × Reader)) : Type 0 where
+  pub each : AreReaders first rows
+
+no_more : {first : ℕ} → Readers first []
+no_more = record { each = tt }
+
+-- one row, and those behind it
+infixr 5 ◌also◌
+◌also◌ : {first : ℕ} {read : Reader} {more : List (ℕ × Reader)} → IsReader first read → Readers (first + 1) more → Readers first ((first, read) ∷ more)
+here also behind = record { each = (refl, here, behind.each) }
+
 -- which way a test went
 chosen : {X : Type 0} (b : Bool) (x y z : X) → cond b x y ≡ z → ((b ≡ true) × (x ≡ z)) ⊎ ((b ≡ false) × (y ≡ z))
 chosen true x y z e = inl (refl, e)
@@ -104,77 +115,27 @@ IsRow s =
 
 -- ---- one line for each kind in each of these
 
-all_readers : AreReaders 1 kinds
+all_readers : Readers 1 kinds
 unfolding kinds
-all_readers = (
-  refl,
-  reader 1 Configured texts_lawful (λ x. refl),
-  (
-    refl,
-    reader 2 Put put_lawful (λ x. refl),
-    (
-      refl,
-      reader 3 Accessed inode_lawful (λ x. refl),
-      (
-        refl,
-        reader 4 Removed inode_lawful (λ x. refl),
-        (
-          refl,
-          reader 5 Renamed renamed_lawful (λ x. refl),
-          (
-            refl,
-            reader 6 Attributed attributed_lawful (λ x. refl),
-            (
-              refl,
-              reader 7 CopyMade copy_made_lawful (λ x. refl),
-              (
-                refl,
-                reader 8 Rearchive file_copy_lawful (λ x. refl),
-                (
-                  refl,
-                  reader 9 Unarchived file_copy_lawful (λ x. refl),
-                  (
-                    refl,
-                    reader 10 Released released_lawful (λ x. refl),
-                    (
-                      refl,
-                      reader 11 Wanted inodes_lawful (λ x. refl),
-                      (
-                        refl,
-                        reader 12 Staged staged_lawful (λ x. refl),
-                        (
-                          refl,
-                          reader 13 StageFailed inode_lawful (λ x. refl),
-                          (
-                            refl,
-                            reader 14 Damaged damaged_lawful (λ x. refl),
-                            (
-                              refl,
-                              reader 15 Recycling index_lawful (λ x. refl),
-                              (
-                                refl,
-                                reader 16 Relabelled relabelled_lawful (λ x. refl),
-                                (
-                                  refl,
-                                  reader 17 Flagged flagged_lawful (λ x. refl),
-                                  tt,
-                                ),
-                              ),
-                            ),
-                          ),
-                        ),
-                      ),
-                    ),
-                  ),
-                ),
-              ),
-            ),
-          ),
-        ),
-      ),
-    ),
-  ),
-)
+all_readers =
+    reader 1 Configured texts_lawful (λ x. refl)
+    also reader 2 Put put_lawful (λ x. refl)
+    also reader 3 Accessed inode_lawful (λ x. refl)
+    also reader 4 Removed inode_lawful (λ x. refl)
+    also reader 5 Renamed renamed_lawful (λ x. refl)
+    also reader 6 Attributed attributed_lawful (λ x. refl)
+    also reader 7 CopyMade copy_made_lawful (λ x. refl)
+    also reader 8 Rearchive file_copy_lawful (λ x. refl)
+    also reader 9 Unarchived file_copy_lawful (λ x. refl)
+    also reader 10 Released released_lawful (λ x. refl)
+    also reader 11 Wanted inodes_lawful (λ x. refl)
+    also reader 12 Staged staged_lawful (λ x. refl)
+    also reader 13 StageFailed inode_lawful (λ x. refl)
+    also reader 14 Damaged damaged_lawful (λ x. refl)
+    also reader 15 Recycling index_lawful (λ x. refl)
+    also reader 16 Relabelled relabelled_lawful (λ x. refl)
+    also reader 17 Flagged flagged_lawful (λ x. refl)
+    also no_more
 
 is_row : (s : StepKind) → IsRow s
 unfolding kinds
@@ -199,17 +160,16 @@ is_row (Flagged f) = (Flagged, refl, flagged_lawful, λ b. refl, refl)
 -- ----
 
 so_many : last_kind < 1 + length kinds
-unfolding kinds
 so_many = omega arith
 
 pub kind_takes : (number : ℕ) (bytes : List ℕ) (s : StepKind) (rest : List ℕ) → IsBytes bytes → kind_at number bytes ≡ Ok (s, rest) → IsOfKind number bytes s rest
-kind_takes number bytes s rest fits h = by_takes 1 kinds all_readers number bytes s rest fits h
+kind_takes number bytes s rest fits h = by_takes 1 kinds all_readers.each number bytes s rest fits h
 
 pub kind_fails : (number : ℕ) (bytes : List ℕ) (e : StepRefusal) → IsBytes bytes → IsWithin 1 last_kind number → kind_at number bytes ≡ Err e → KindRefuses number bytes e
-kind_fails number bytes e fits within h = by_fails 1 kinds all_readers number bytes e fits within.0 (omega (arith, within.1, so_many)) h
+kind_fails number bytes e fits within h = by_fails 1 kinds all_readers.each number bytes e fits within.0 (omega (arith, within.1, so_many)) h
 
 pub kind_there : (number : ℕ) → IsWithin 1 last_kind number → (s : StepKind) × ((row s).number ≡ number)
-kind_there number within = by_there 1 kinds all_readers number within.0 (omega (arith, within.1, so_many))
+kind_there number within = by_there 1 kinds all_readers.each number within.0 (omega (arith, within.1, so_many))
 
 pub kind_again : (s : StepKind) (rest : List ℕ) → IsRowInRange (row s) → kind_at (row s).number (kind_written (row s) ++ rest) ≡ Ok (s, rest)
 kind_again s rest h = let r = is_row s in r.3 (kind_written (row s) ++ rest) ∙ rw (r.2.again (row s).fields rest h, r.1) refl

@@ -27,7 +27,7 @@ Reader = List ℕ → Result (StepKind × List ℕ) StepRefusal
 abbrev pub read_as : {A : Type 0} → (A → StepKind) → Form A → Reader
 read_as make form bytes = form.read bytes >>= λ x. Ok (make x.0, x.1)
 
--- the table of the kinds again, by their numbers
+-- the table of the kinds again, by their numbers, which are counted from 1
 unfoldable pub kinds : List (ℕ × Reader)
 kinds =
     (1, read_as Configured texts)
@@ -49,9 +49,9 @@ kinds =
     ∷ (17, read_as Flagged flagged)
     ∷ []
 
--- the highest number in it; the lowest is 1
+-- the highest number in it; they are counted from 1
 abbrev pub last_kind : ℕ
-last_kind = 17
+last_kind = length kinds
 
 abbrev pub read_by : List (ℕ × Reader) → ℕ → Reader
 read_by [] number bytes = Err BadKind

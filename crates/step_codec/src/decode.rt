@@ -67,7 +67,7 @@ fn read_fields(number: u8, bytes: &mut Unread) -> Result<Step, StepRefusal>
     Ok(Step { moment, kind })
 }
 
-#[tactic(auto, unfolding(crate::specs::Reading::step_at))]
+#[tactic(auto, unfolding(crate::specs::Reading::step_at, crate::specs::Reading::kinds))]
 fn read_step(alloc: Global, bytes: &[u8]) -> Result<Step, StepRefusal>
     ensures { Gives (λ s. s) result (step_at bytes.now) }
 {

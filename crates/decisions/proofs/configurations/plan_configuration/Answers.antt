@@ -1,12 +1,14 @@
 use Rattle.std.proofs.Common.{◌≡◌, ap, subst, ◌∙◌, Option, Some}
 use Rattle.std.specs.Prelude.{option_map}
+use Rattle.site_events.specs.declared.reply.Reply.TheVariants.{Done}
+use Rattle.site_types.specs.declared.step.StepKind.TheVariants.{Configured}
 use Rattle.configuration.specs.declared.read.ConfigurationError.{ConfigurationError}
 use Rattle.configuration.specs.declared.read.FileRefusal.{FileRefusal}
 use Rattle.configuration.specs.ConfigurationSteps.{refusal_of, TellsRefusal}
 use Rattle.site_history.specs.ConfigureAnswers.{conf_refused}
 use Rattle.site_history.proofs.StepRanges.{configured-range, configured-short}
-use Rattle.site_history.proofs.Turns.{configure-refused}
-use Rattle.decisions.proofs.Planned.{configuration_planned}
+use Rattle.site_history.proofs.Turns.{configure-refused, configure-made}
+use Rattle.decisions.proofs.Planned.{nothing_planned}
 use Rattle.decisions.proofs.configurations.plan_configuration.Goals as goal
 
 pub returns-in-Some-clause-answers : goal.returns-in-Some-clause-answers
@@ -14,8 +16,9 @@ returns-in-Some-clause-answers c = λ terms count site running kept bytes keeps.
 
 pub returns-in-Ok-clause-answers : goal.returns-in-Ok-clause-answers
 returns-in-Ok-clause-answers c = λ terms count site running kept bytes keeps.
-    configuration_planned terms site running c.args.moment (Some c.in-Ok.setting) c.args.texts
-    (c.in_default.ensures.left site.fields keeps ∙ ap (λ (o : Option FileRefusal). option_map conf_refused o) c.in-Ok.ensures.read)
+    nothing_planned terms site running c.args.moment (Some c.in-Ok.setting) _ (Done 0) (Configured c.args.texts)
+    (configure-made terms site running c.args.moment c.args.texts
+    (c.in_default.ensures.left site.fields keeps ∙ ap (λ (o : Option FileRefusal). option_map conf_refused o) c.in-Ok.ensures.read))
 
 pub returns-in-Ok-clause-performable : goal.returns-in-Ok-clause-performable
 returns-in-Ok-clause-performable c = (

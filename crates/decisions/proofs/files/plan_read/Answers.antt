@@ -1,7 +1,7 @@
 use Rattle.std.proofs.Common.{None, ◌∙◌, arith}
-use Rattle.site_history.proofs.StepRanges.{accessed_in_range, accessed_short}
+use Rattle.site_types.specs.declared.step.StepKind.TheVariants.{Accessed}
 use Rattle.site_history.proofs.Turns.{read-missing}
-use Rattle.decisions.proofs.Planned.{finds_none, finds_file, read_planned}
+use Rattle.decisions.proofs.Planned.{bare_recordable, finds_none, finds_file, read_planned}
 use Rattle.decisions.proofs.files.plan_read.Goals as goal
 
 pub returns-in_default-clause-answers : goal.returns-in_default-clause-answers
@@ -16,12 +16,4 @@ returns-clause-answers c = λ terms count site running kept bytes keeps.
     _ c.in_ok-buffer.buffer (c.from_vec.ensures ∙ c.in_ok-runs.ensures.items ∙ c.as_slice-2.ensures) (omega (arith, c.in_ok-buffer.ensures.len, c.in_ok-buffer.buffer.ok, c.min-count.ensures))
 
 pub returns-clause-performable : goal.returns-clause-performable
-returns-clause-performable c = (
-  record {
-    range = accessed_in_range c.args.moment c.in-Some.file.now.inode c.requires c.in-Some.ensures.inode;
-    short = accessed_short c.args.moment c.in-Some.file.now.inode;
-    maximal = tt;
-    memory = record { room = tt; setting = tt };
-  },
-  tt,
-)
+returns-clause-performable c = (bare_recordable c.args.site.now c.args.moment (Accessed c.in-Some.file.now.inode) c.requires c.in-Some.ensures.inode (omega arith) tt tt tt, tt)

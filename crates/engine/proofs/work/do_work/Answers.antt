@@ -6,7 +6,7 @@ use Rattle.site_history.specs.Extents.{extents_over, AllStand}
 use Rattle.site_history.specs.Pinned.{StandInAll, in_blocks_of}
 use Rattle.site_history.proofs.Storing.{nothing_stands}
 use Rattle.site_history.proofs.Turns.{is_reply}
-use Rattle.site_state.specs.Fields.{put_runs}
+use Rattle.site_history.specs.Steps.{put_runs}
 use Rattle.decisions.specs.declared.plan.Work.{Work}
 use Rattle.decisions.specs.Needs.{NamesNoFault}
 use Rattle.decisions.specs.Plans.{Gives, stored_bytes}

@@ -1,5 +1,5 @@
-use Rattle.std.proofs.Common.{◌≡◌, ℕ, Option, Some, sym, subst}
-use Rattle.site_types.specs.declared.step.StepKind.TheVariants.{Configured}
+use Rattle.std.proofs.Common.{◌≡◌, ℕ, Option, Some, refl, sym, subst}
+use Rattle.site_types.specs.declared.step.StepKind.TheVariants.{Configured, Put, Accessed, Removed}
 use Rattle.site_types.specs.declared.file.SiteTexts.{SiteTexts}
 use Rattle.site_history.specs.Terms.{Terms}
 use Rattle.site_history.specs.Site.{Fields}
@@ -11,7 +11,6 @@ use Rattle.site_state.specs.Room.{IsSettingOf, HasSettingFor}
 use Rattle.step_codec.proofs.InRange.{ranges}
 use Rattle.site_types.specs.Ranges.{Ranges}
 use Rattle.site_types.specs.declared.step.StepKind.{StepKind}
-use Rattle.site_state.proofs.Legality.{not_served}
 use Rattle.site_state.proofs.state.SiteState.apply.Goals as goal
 
 pub apply_put-requires-clause-range : goal.apply_put-requires-clause-range
@@ -66,6 +65,13 @@ returns-in-Some c = λ terms count fields kept few keeps legal.
     (c.apply_setting.ensures fields c.in-Configured.field-0 keeps (rule_of terms fields c.args.prepared.step.moment c.args.prepared.step.kind _ c.in-Configured.is legal.2).no_file
     (setting_of c.args.prepared.step.moment c.args.prepared.step.kind c.in-Configured.field-0 c.args.prepared.setting c.in-Some.setting c.in-Configured.is c.in-Some.is c.requires.prepared.setting))
 
+-- a step of another kind never may come: a row for each kind that is served
 pub returns : goal.returns
 returns c = λ terms count fields kept few keeps legal.
-    absurd (not_served terms fields c.args.prepared.step.moment c.args.prepared.step.kind c.in_default.not-Configured c.in_default.not-Put c.in_default.not-Accessed c.in_default.not-Removed legal)
+    absurd ((elim c.args.prepared.step.kind as (λ kind. c.args.prepared.step.kind ≡ kind → MayCome terms fields c.args.prepared.step.moment kind → ⊥) [
+      | Configured texts ↦ λ is rule. c.in_default.not-Configured texts is
+      | Put put ↦ λ is rule. c.in_default.not-Put put is
+      | Accessed inode ↦ λ is rule. c.in_default.not-Accessed inode is
+      | Removed inode ↦ λ is rule. c.in_default.not-Removed inode is
+      | _ ↦ λ is rule. rule
+    ]) refl legal.2)

@@ -1,20 +1,13 @@
-use Rattle.std.proofs.Common.{List, refl, sym, ◌∙◌, ap}
-use Rattle.cache_space.specs.Space.{taken_by}
-use Rattle.site_types.specs.declared.file.Run.{Run}
-use Rattle.site_history.specs.Site.{cache_blocks}
-use Rattle.site_history.proofs.HeldRuns.{held-accessed}
-use Rattle.site_state.proofs.Effects.{accessed_list, not_there}
+use Rattle.std.proofs.Common.{refl, sym, ◌∙◌}
+use Rattle.site_history.specs.AccessedSteps.{accessed_at}
+use Rattle.site_history.proofs.FileChanges.{accessed_leaves}
+use Rattle.site_state.proofs.Effects.{changed_keeps, not_there}
 use Rattle.site_state.proofs.state.SiteState.apply_access.Goals as goal
 
 pub returns-in-Some : goal.returns-in-Some
-returns-in-Some c = λ count fields kept keeps there. record {
-  files = accessed_list count fields kept c.args.self.now keeps c.args.inode c.in-Some.index (sym c.find_inode.ensures ∙ c.in-Some.is)
-      c.args.moment _ c.access_at.ensures;
-  next_inode = keeps.next_inode;
-  moment = refl;
-  configuration = keeps.configuration;
-  space = keeps.space ∙ ap (λ (l : List Run). taken_by (cache_blocks fields) l) (sym (held-accessed c.args.moment c.args.inode fields.files));
-}
+returns-in-Some c = λ count fields kept keeps there.
+    changed_keeps count fields kept c.args.self.now keeps c.args.inode c.in-Some.index (sym c.find_inode.ensures ∙ c.in-Some.is)
+    c.args.moment (accessed_at c.args.moment) (accessed_leaves c.args.moment) _ c.access_at.ensures refl refl refl refl
 
 pub returns-in_default : goal.returns-in_default
 returns-in_default c = λ count fields kept keeps there.
