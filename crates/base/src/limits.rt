@@ -3,6 +3,12 @@
 /// The most bytes of a command file.
 pub const COMMAND_FILE_MAX: usize = 65_536;
 
+/// The largest number that a field of a command file can say: nine digits.
+pub const FIELD_NUMBER_MAX: u32 = 999_999_999;
+
+/// The largest size that a field of a command file can say, in bytes.
+pub const FIELD_SIZE_MAX: u64 = 1_125_899_906_842_623;
+
 /// The most bytes of a line of a script, without the line feed that ends it.
 pub const LINE_MAX: usize = 4096;
 
@@ -23,6 +29,12 @@ pub const INODE_MAX: u32 = 4_294_967_294;
 
 /// The most volumes of a site.
 pub const VOLUME_COUNT_MAX: usize = 1024;
+
+/// The most members of an archive run: the files that it copies.
+pub const MEMBER_COUNT_MAX: u32 = 512;
+
+/// The most sections of a copy: the pieces of a file that lie on volumes.
+pub const SECTION_COUNT_MAX: u32 = 8;
 
 /// The most blocks of a cache, of 4,096 bytes each.
 pub const CACHE_BLOCKS_MAX: u32 = 16_777_216;

@@ -78,7 +78,10 @@ fn is_of_length(least: usize, most: usize, text: &[u8]) -> bool
 pub fn is_legal_path(path: &[u8]) -> bool
     ensures { result ≡ is_legal_path path.now }
 {
-    is_of_length(2, PATH_MAX, path) && is_plain_text(path) && begins_with_slash(path) && has_parts(path)
+    is_of_length(2, PATH_MAX, path)
+        && is_plain_text(path)
+        && begins_with_slash(path)
+        && has_parts(path)
 }
 
 /// Whether this text with a `/` before it is the path of a file: at most 1,023 bytes.
