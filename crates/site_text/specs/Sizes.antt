@@ -1,5 +1,5 @@
 -- Sizes: 1 to 15 digits and at most one suffix `k`, `M`, `G` or `T`, of either case.
-use Rattle.std.specs.Prelude.{◌+◌, ℕ, ◌-◌, ◌*◌, ◌^◌, List, length, take, Option, Some, None, Result, ◌==◌, ◌||◌, if◌then◌else◌, option_map, slice_index}
+use Rattle.std.specs.Prelude.{ℕ, ◌+◌, ◌-◌, ◌*◌, ◌^◌, List, length, take, Option, Some, None, Result, ◌==◌, ◌||◌, if◌then◌else◌, option_map, slice_index}
 use Rattle.std.specs.Str.{byte}
 use Rattle.base.specs.declared.limits.TheConstants.{FIELD_SIZE_MAX}
 use Rattle.site_text.specs.declared.refusal.TextRefusal.{TextRefusal}

@@ -1,6 +1,6 @@
 //! Sizes in bytes.
 
-ghost use Rattle.std.specs.Prelude.{◌≤◌, ◌+◌, ◌≡◌, ◌*◌, ◌<◌, ◌^◌, IfOk, Some};
+ghost use Rattle.std.specs.Prelude.{◌≡◌, ◌+◌, ◌*◌, ◌≤◌, IfOk, Some};
 ghost use Rattle.site_text.specs.Numbers.{below};
 ghost use Rattle.site_text.specs.Sizes.{scale_of, size_of};
 ghost use Rattle.site_text.specs.declared.refusal.TextRefusal.TheVariants.{BadSize};
