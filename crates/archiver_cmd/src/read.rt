@@ -10,6 +10,7 @@ ghost use Rattle.site_text.specs.OneMeaning.{SaysOneThing};
 
 use crate::conf::{ArchiverConf, conf_of};
 use archiver_lines::{Known, Reading, read_line};
+use base::COMMAND_FILE_MAX;
 use site_text::{CommandFile, ConfError, Line, LineError, each_text_says_one_thing, read_file};
 use std::alloc::{AllocError, Global};
 
@@ -67,7 +68,7 @@ impl CommandFile for ArchiverFile<'_> {
 /// What a text of at most 65,536 bytes says as the archiver.cmd of a site whose file system has this name, or its first bad line
 /// and what is wrong with it.
 pub fn read_archiver(alloc: Global, text: &[u8], fs: &[u8]) -> Result<ArchiverConf, ConfError>
-    requires { length text.now ≤ 65536 }
+    requires { length text.now ≤ COMMAND_FILE_MAX }
     ensures { FileAnswers (LineSays fs.now) (LineWrong fs.now) open_line (Tells fs.now) text.now result }
 {
     match read_file(alloc, &ArchiverFile { site: fs }, text) {

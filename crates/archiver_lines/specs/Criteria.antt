@@ -1,5 +1,6 @@
 -- The criteria and attributes of an assignment.
 use Rattle.std.specs.Prelude.{List, [], ◌∷◌, codes, false}
+use Rattle.base.specs.declared.limits.TheConstants.{NAME_MAX}
 use Rattle.site_text.specs.Fields.{Field, Read, map_read}
 use Rattle.site_text.specs.Words.{word_value}
 use Rattle.site_text.specs.Values.{any_value, age_value, name_value}
@@ -25,8 +26,8 @@ valued gives kind = WithValue (λ field. map_read gives (kind field))
 abbrev pub criteria : List (Field × OptionForm Criterion)
 criteria =
     (codes "-name", valued given.Name any_value)
-    ∷ (codes "-user", valued given.User (name_value 32))
-    ∷ (codes "-group", valued given.Group (name_value 32))
+    ∷ (codes "-user", valued given.User (name_value NAME_MAX))
+    ∷ (codes "-group", valued given.Group (name_value NAME_MAX))
     ∷ (codes "-minsize", valued given.Minsize any_size)
     ∷ (codes "-maxsize", valued given.Maxsize any_size)
     ∷ (codes "-access", valued given.Access age_value)

@@ -1,5 +1,6 @@
 -- Criteria and attributes by the words that the code has for them.
 use Rattle.std.specs.Prelude.{List, [], ◌∷◌, codes}
+use Rattle.base.specs.declared.limits.TheConstants.{NAME_MAX}
 use Rattle.site_text.specs.Fields.{Field, Read, map_read}
 use Rattle.site_text.specs.Words.{word_value}
 use Rattle.site_text.specs.Values.{any_value, age_value, name_value}
@@ -25,8 +26,8 @@ criterion_words =
 -- what each gives with its value
 abbrev pub criterion_value : CriterionWord → Field → Read Criterion
 criterion_value words.Name field = map_read given.Name (any_value field)
-criterion_value words.User field = map_read given.User (name_value 32 field)
-criterion_value words.Group field = map_read given.Group (name_value 32 field)
+criterion_value words.User field = map_read given.User (name_value NAME_MAX field)
+criterion_value words.Group field = map_read given.Group (name_value NAME_MAX field)
 criterion_value words.Minsize field = map_read given.Minsize (any_size field)
 criterion_value words.Maxsize field = map_read given.Maxsize (any_size field)
 criterion_value words.Access field = map_read given.Access (age_value field)

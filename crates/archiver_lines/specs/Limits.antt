@@ -1,5 +1,6 @@
--- How many there may be in one archiver.cmd, and how large its numbers may be.
-use Rattle.std.specs.Prelude.{ℕ, ◌-◌, ◌^◌}
+-- How many there may be in one archiver.cmd, and what its numbers and sizes may be.
+use Rattle.std.specs.Prelude.{ℕ}
+use Rattle.base.specs.declared.limits.TheConstants.{FIELD_NUMBER_MAX, FIELD_SIZE_MAX}
 use Rattle.site_text.specs.Fields.{Field, Read}
 use Rattle.site_text.specs.Values.{number_value, size_value}
 
@@ -15,12 +16,8 @@ most_sets = 64
 abbrev pub most_exprs : ℕ
 most_exprs = 256
 
--- a number has at most 9 digits
-abbrev pub most_number : ℕ
-most_number = 10 ^ 9 - 1
-
 abbrev pub any_number : Field → Read ℕ
-any_number field = number_value 0 most_number field
+any_number field = number_value 0 FIELD_NUMBER_MAX field
 
 abbrev pub any_size : Field → Read ℕ
-any_size field = size_value 0 (2 ^ 50 - 1) field
+any_size field = size_value 0 FIELD_SIZE_MAX field

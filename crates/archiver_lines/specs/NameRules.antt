@@ -1,5 +1,6 @@
 -- The names of copies in params and vsns: what one says, and what is wrong with one.
 use Rattle.std.specs.Prelude.{◌≡◌, ℕ, List, codes, Some, true, false}
+use Rattle.base.specs.declared.limits.TheConstants.{NAME_MAX}
 use Rattle.site_text.specs.declared.fault.ConfFault.{ConfFault}
 use Rattle.site_text.specs.Fields.{Field}
 use Rattle.archiver_lines.specs.declared.reading.Reading.{Reading}
@@ -18,14 +19,14 @@ NameSays site before field (names.AllSetsCopy copy) = ¬ (field ≡ codes "allse
     × (around_last_dot field ≡ Some (codes "allsets", number)) × (number_within 9 1 4 number ≡ Some copy))
 NameSays site before field (names.SetCopy set copy) = ¬ (field ≡ codes "allsets") × ¬ (set ≡ codes "allsets") × ((number : Field)
     × (around_last_dot field ≡ Some (set, number)) × (number_within 9 1 4 number ≡ Some copy)
-    × (is_name 32 set ≡ true) × (is_known site (file_systems_of before) (sets_of before) set ≡ true))
+    × (is_name NAME_MAX set ≡ true) × (is_known site (file_systems_of before) (sets_of before) set ≡ true))
 
 -- the name of a set and the number of a copy, with a `.` between
 pub record IsNumbered (field set : Field) (copy : ℕ) : Type 0 where
   pub number : Field
   pub cut : around_last_dot field ≡ Some (set, number)
   pub numbered : number_within 9 1 4 number ≡ Some copy
-  pub form : is_name 32 set ≡ true
+  pub form : is_name NAME_MAX set ≡ true
 
 -- The field is neither `allsets` nor of the form `SET.N`, or there is no such set.
 abbrev pub NameWrong : Field → List Reading → Field → ConfFault → Type 0

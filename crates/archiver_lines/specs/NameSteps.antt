@@ -1,6 +1,7 @@
 -- The names of copies, read in steps.
 use Rattle.std.specs.Prelude.{ℕ, List, codes, Option, Some, None, Ok, Err, not, if◌then◌else◌}
 use Rattle.std.specs.Str.{bytes_eq}
+use Rattle.base.specs.declared.limits.TheConstants.{NAME_MAX}
 use Rattle.site_text.specs.Fields.{Field, Read, ◌>>=◌, wanted, refuse_if}
 use Rattle.site_text.specs.declared.fault.ConfFault.TheVariants.{BadValue, UnknownSet}
 use Rattle.site_text.specs.Numbers.{number_within}
@@ -17,7 +18,7 @@ copy_number field = number_within 9 1 4 field
 unfoldable pub numbered_name : Field → List Field → List Field → Field → Field → Read CopyName
 numbered_name site file_systems sets set number = do
   copy ← wanted (copy_number number) BadValue
-  form ← refuse_if (not (is_name 32 set)) BadValue
+  form ← refuse_if (not (is_name NAME_MAX set)) BadValue
   if bytes_eq set (codes "allsets") then Ok (AllSetsCopy copy) else (do
     known ← refuse_if (not (is_known site file_systems sets set)) UnknownSet
     Ok (SetCopy set copy))

@@ -1,5 +1,6 @@
 -- The options of params by the words that the code has for them.
 use Rattle.std.specs.Prelude.{List, [], ◌∷◌, codes, true, false}
+use Rattle.base.specs.declared.limits.TheConstants.{FIELD_NUMBER_MAX}
 use Rattle.site_text.specs.Fields.{Field, Read, map_read}
 use Rattle.site_text.specs.Words.{option_named, word_value}
 use Rattle.site_text.specs.Values.{any_value, age_value, number_value}
@@ -10,7 +11,7 @@ use Rattle.archiver_lines.specs.declared.param_options.ParamOption.{ParamOption}
 use Rattle.archiver_lines.specs.declared.param_options.ParamOption.TheVariants as listed
 use Rattle.archiver_lines.specs.declared.param_options.Given.{Given}
 use Rattle.archiver_lines.specs.declared.param_options.Given.TheVariants as given
-use Rattle.archiver_lines.specs.Limits.{most_number, any_number, any_size}
+use Rattle.archiver_lines.specs.Limits.{any_number, any_size}
 use Rattle.archiver_lines.specs.ParamOptions.{join_words, sort_words, reserve_words, unarchage_words, sort_by}
 
 abbrev pub option_words : List (Field × ParamOption)
@@ -53,7 +54,7 @@ option_value options.Rsort field = map_read (λ key. sort_by key true) (word_val
 option_value options.Reserve field = map_read given.Reserve (word_value reserve_words field)
 option_value options.Ovflmin field = map_read given.Ovflmin (any_size field)
 option_value options.Startage field = map_read given.Startage (age_value field)
-option_value options.Startcount field = map_read given.Startcount (number_value 1 most_number field)
+option_value options.Startcount field = map_read given.Startcount (number_value 1 FIELD_NUMBER_MAX field)
 option_value options.Startsize field = map_read given.Startsize (any_size field)
 option_value options.Unarchage field = map_read given.Unarchage (word_value unarchage_words field)
 option_value options.RecycleHwm field = map_read given.RecycleHwm (number_value 0 100 field)

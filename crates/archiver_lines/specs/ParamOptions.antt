@@ -1,12 +1,13 @@
 -- The options of params.
 use Rattle.std.specs.Prelude.{List, [], ◌∷◌, codes, length, Option, Some, None, Bool, true, false, ◌&&◌, ◌||◌, not, if◌then◌else◌, drop, nat_eq}
 use Rattle.std.specs.List.{list_any, starts_with}
+use Rattle.base.specs.declared.limits.TheConstants.{FIELD_NUMBER_MAX}
 use Rattle.site_text.specs.Fields.{Field, Read, map_read}
 use Rattle.site_text.specs.Words.{word_value}
 use Rattle.site_text.specs.Values.{any_value, age_value, number_value}
 use Rattle.site_text.specs.Options.{Options, OptionForm, Alone, WithValue, listed}
 use Rattle.archiver_lines.specs.Names.{same_name}
-use Rattle.archiver_lines.specs.Limits.{most_number, any_number, any_size}
+use Rattle.archiver_lines.specs.Limits.{any_number, any_size}
 use Rattle.archiver_lines.specs.declared.param_options.Given.{Given}
 use Rattle.archiver_lines.specs.declared.param_options.Given.TheVariants as given
 use Rattle.archiver_lines.specs.declared.param_options.Join.{Join}
@@ -59,7 +60,7 @@ param_options =
     ∷ (codes "-reserve", valued given.Reserve (word_value reserve_words))
     ∷ (codes "-ovflmin", valued given.Ovflmin any_size)
     ∷ (codes "-startage", valued given.Startage age_value)
-    ∷ (codes "-startcount", valued given.Startcount (number_value 1 most_number))
+    ∷ (codes "-startcount", valued given.Startcount (number_value 1 FIELD_NUMBER_MAX))
     ∷ (codes "-startsize", valued given.Startsize any_size)
     ∷ (codes "-unarchage", valued given.Unarchage (word_value unarchage_words))
     ∷ (codes "-recycle_hwm", valued given.RecycleHwm (number_value 0 100))

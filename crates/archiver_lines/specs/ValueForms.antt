@@ -1,6 +1,7 @@
 -- Value lines of archiver.cmd: each directive with the form of its values.
 use Rattle.std.specs.Prelude.{[], ◌∷◌, codes, Ok, Err, if◌then◌else◌}
 use Rattle.std.specs.Str.{bytes_eq}
+use Rattle.base.specs.declared.limits.TheConstants.{NAME_MAX}
 use Rattle.site_text.specs.declared.fault.ConfFault.TheVariants.{BadValue}
 use Rattle.site_text.specs.Fields.{Field, Read}
 use Rattle.site_text.specs.Values.{name_value}
@@ -16,7 +17,7 @@ off_value field = if bytes_eq field (codes "off") then Ok field else Err BadValu
 -- `fs = NAME`, `archivemeta = off`, and those without effect, which take any values
 abbrev pub value_names : FormTable Reading
 value_names =
-    (codes "fs", one_text (name_value 32) readings.FileSystem)
+    (codes "fs", one_text (name_value NAME_MAX) readings.FileSystem)
     ∷ (codes "archivemeta", one_text off_value (λ off. readings.Nothing))
     ∷ (codes "bufsize", ignored_form readings.Nothing)
     ∷ (codes "directio", ignored_form readings.Nothing)

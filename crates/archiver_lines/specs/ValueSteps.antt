@@ -1,5 +1,6 @@
 -- Value lines of archiver.cmd by the words that the code has for their directives.
 use Rattle.std.specs.Prelude.{List, [], ◌∷◌, codes}
+use Rattle.base.specs.declared.limits.TheConstants.{NAME_MAX}
 use Rattle.site_text.specs.Fields.{Field, Read}
 use Rattle.site_text.specs.Directives.{no_words}
 use Rattle.site_text.specs.DirectiveSteps.{read_directive}
@@ -31,7 +32,7 @@ directives =
 
 -- the form of a directive that the code has a word for
 abbrev pub form_of : Directive → Form Reading
-form_of FileSystem = one_text (name_value 32) readings.FileSystem
+form_of FileSystem = one_text (name_value NAME_MAX) readings.FileSystem
 form_of Archivemeta = one_text off_value (λ off. readings.Nothing)
 form_of Ignored = ignored_form readings.Nothing
 

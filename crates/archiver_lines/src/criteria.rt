@@ -8,7 +8,7 @@ ghost use Rattle.site_text.specs.OptionSteps.{options_of, form_found};
 ghost use Rattle.archiver_lines.specs.Criteria.{criteria, criteria_table};
 ghost use Rattle.archiver_lines.specs.CriteriaSteps.{criterion_value};
 
-use base::{Bytes, List};
+use base::{Bytes, FIELD_SIZE_MAX, List, NAME_MAX};
 use site_text::{
     ConfFault, Fields, LineError, OptionTable, TableOption, age_value, is_name, option_named,
     read_options, size_value, word_value,
@@ -65,9 +65,6 @@ pub enum Criterion {
     Stage(Stage),
 }
 
-/// The greatest size in bytes that a field can say.
-const MOST_SIZE: u64 = (1 << 50) - 1;
-
 const CRITERIA: [(&[u8], CriterionWord); 8] = [
     (b"-name", CriterionWord::Name),
     (b"-user", CriterionWord::User),
@@ -94,9 +91,9 @@ const STAGES: [(&[u8], Stage); 3] = [
 
 /// A name of 1 to 32 letters, digits, `_`, `-` and `.`, else `BadValue`.
 fn name_value(alloc: Global, field: &[u8]) -> Result<Bytes, LineError>
-    ensures { Gives (λ name. name) result (name_value 32 field.now) }
+    ensures { Gives (λ name. name) result (name_value NAME_MAX field.now) }
 {
-    if is_name(32, field) {
+    if is_name(NAME_MAX, field) {
         Ok(Bytes::from_slice(alloc, field)?)
     } else {
         Err(LineError::Fault(ConfFault::BadValue))
@@ -145,8 +142,8 @@ impl OptionTable for Criteria {
             CriterionWord::Name => Ok(Criterion::Name(Bytes::from_slice(alloc, field)?)),
             CriterionWord::User => Ok(Criterion::User(name_value(alloc, field)?)),
             CriterionWord::Group => Ok(Criterion::Group(name_value(alloc, field)?)),
-            CriterionWord::Minsize => Ok(Criterion::Minsize(size_value(0, MOST_SIZE, field)?)),
-            CriterionWord::Maxsize => Ok(Criterion::Maxsize(size_value(0, MOST_SIZE, field)?)),
+            CriterionWord::Minsize => Ok(Criterion::Minsize(size_value(0, FIELD_SIZE_MAX, field)?)),
+            CriterionWord::Maxsize => Ok(Criterion::Maxsize(size_value(0, FIELD_SIZE_MAX, field)?)),
             CriterionWord::Access => Ok(Criterion::Access(age_value(field)?)),
             CriterionWord::Release => Ok(Criterion::Release(word_value(&RELEASES, field)?)),
             CriterionWord::Stage => Ok(Criterion::Stage(word_value(&STAGES, field)?)),

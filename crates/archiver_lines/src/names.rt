@@ -11,7 +11,7 @@ ghost use Rattle.archiver_lines.specs.CopySteps.{is_too_many};
 ghost use Rattle.archiver_lines.specs.NameSteps.{copy_number, numbered_name, copy_name};
 
 use crate::reading::CopyName;
-use base::Bytes;
+use base::{Bytes, NAME_MAX};
 use site_text::{
     ConfFault, LineError, cut_at, is_digit, is_letter, is_name, read_number_within, refuse_if,
 };
@@ -137,7 +137,7 @@ fn numbered_name(
     ensures { Gives (λ name. name) result (numbered_name names.now.site.now names.now.file_systems.now names.now.sets.now set.now number.now) }
 {
     let copy = copy_number(number).ok_or(ConfFault::BadValue)?;
-    refuse_if(!is_name(32, set), ConfFault::BadValue)?;
+    refuse_if(!is_name(NAME_MAX, set), ConfFault::BadValue)?;
     if set == b"allsets".as_slice() {
         return Ok(CopyName::AllSetsCopy(copy));
     }

@@ -12,7 +12,7 @@ ghost use Rattle.archiver_lines.specs.Names.{same_name};
 
 use crate::names::same_name;
 use crate::reading::{CopyName, ParamsLine};
-use base::List;
+use base::{FIELD_NUMBER_MAX, FIELD_SIZE_MAX, List};
 use site_text::{
     ConfFault, Fields, LineError, OptionTable, TableOption, age_value, number_value, option_named,
     read_options, size_value, word_value,
@@ -119,12 +119,6 @@ pub enum ParamOption {
     Valued(ValuedOption),
 }
 
-/// The greatest number that a field can say.
-const MOST_NUMBER: u32 = 999_999_999;
-
-/// The greatest size in bytes that a field can say.
-const MOST_SIZE: u64 = (1 << 50) - 1;
-
 const OPTIONS: [(&[u8], ParamOption); 23] = [
     (b"-archmax", ParamOption::Valued(ValuedOption::Archmax)),
     (b"-fillvsns", ParamOption::Alone(Given::Fillvsns)),
@@ -230,7 +224,7 @@ fn param_option(field: &[u8]) -> Result<TableOption<Given, ValuedOption>, ConfFa
 {
     match bufsize_in(field) {
         Some(number) => {
-            number_value(0, MOST_NUMBER, number)?;
+            number_value(0, FIELD_NUMBER_MAX, number)?;
             Ok(TableOption::Alone(Given::Nothing))
         }
         None => listed_option(field),
@@ -249,30 +243,34 @@ fn option_value(option: ValuedOption, field: &[u8]) -> Result<Given, ConfFault>
     ensures { result ≡ option_value option field.now }
 {
     match option {
-        ValuedOption::Archmax => Ok(Given::Archmax(size_value(0, MOST_SIZE, field)?)),
+        ValuedOption::Archmax => Ok(Given::Archmax(size_value(0, FIELD_SIZE_MAX, field)?)),
         ValuedOption::Join => Ok(Given::Join(word_value(&JOINS, field)?)),
         ValuedOption::Sort => sort_value(false, field),
         ValuedOption::Rsort => sort_value(true, field),
         ValuedOption::Reserve => Ok(Given::Reserve(word_value(&RESERVE_PARTS, field)?)),
-        ValuedOption::Ovflmin => Ok(Given::Ovflmin(size_value(0, MOST_SIZE, field)?)),
+        ValuedOption::Ovflmin => Ok(Given::Ovflmin(size_value(0, FIELD_SIZE_MAX, field)?)),
         ValuedOption::Startage => Ok(Given::Startage(age_value(field)?)),
-        ValuedOption::Startcount => Ok(Given::Startcount(number_value(1, MOST_NUMBER, field)?)),
-        ValuedOption::Startsize => Ok(Given::Startsize(size_value(0, MOST_SIZE, field)?)),
+        ValuedOption::Startcount => Ok(Given::Startcount(number_value(
+            1,
+            FIELD_NUMBER_MAX,
+            field,
+        )?)),
+        ValuedOption::Startsize => Ok(Given::Startsize(size_value(0, FIELD_SIZE_MAX, field)?)),
         ValuedOption::Unarchage => Ok(Given::Unarchage(word_value(&UNARCHAGES, field)?)),
         ValuedOption::RecycleHwm => Ok(Given::RecycleHwm(number_value(0, 100, field)?)),
         ValuedOption::RecycleMingain => Ok(Given::RecycleMingain(number_value(0, 100, field)?)),
         ValuedOption::RecycleVsncount => {
-            Ok(Given::RecycleVsncount(number_value(0, MOST_NUMBER, field)?))
+            Ok(Given::RecycleVsncount(number_value(0, FIELD_NUMBER_MAX, field)?))
         }
         ValuedOption::RecycleDataquantity => {
-            Ok(Given::RecycleDataquantity(size_value(0, MOST_SIZE, field)?))
+            Ok(Given::RecycleDataquantity(size_value(0, FIELD_SIZE_MAX, field)?))
         }
         ValuedOption::AnyNumber => {
-            number_value(0, MOST_NUMBER, field)?;
+            number_value(0, FIELD_NUMBER_MAX, field)?;
             Ok(Given::Nothing)
         }
         ValuedOption::AnySize => {
-            size_value(0, MOST_SIZE, field)?;
+            size_value(0, FIELD_SIZE_MAX, field)?;
             Ok(Given::Nothing)
         }
         ValuedOption::AnyWord => Ok(Given::Nothing),

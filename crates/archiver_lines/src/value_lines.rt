@@ -11,7 +11,7 @@ ghost use Rattle.site_text.specs.Directives.{no_words};
 ghost use Rattle.archiver_lines.specs.declared.value_lines.Directive.TheVariants as directive;
 
 use crate::reading::Reading;
-use base::Bytes;
+use base::{Bytes, NAME_MAX};
 use site_text::{
     ConfFault, Fields, LineError, find_word, is_name, read_ignored, refuse_if, value_line,
 };
@@ -55,7 +55,7 @@ fn fs_line(alloc: Global, values: Fields) -> Result<Reading, LineError>
 {
     let mut values = values;
     let name = values.next()?;
-    if !is_name(32, name) {
+    if !is_name(NAME_MAX, name) {
         return Err(LineError::Fault(ConfFault::BadValue));
     }
     values.end()?;

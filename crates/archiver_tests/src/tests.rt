@@ -1,6 +1,7 @@
 //! What no clause says: that the calls succeed, and texts made by hand from the format.
 
 use archiver_cmd::{ArchiverConf, read_archiver};
+use base::COMMAND_FILE_MAX;
 use site_text::{ConfError, ConfFault, ConfRefusal};
 use std::alloc::Global;
 use std::test::Fail;
@@ -25,7 +26,7 @@ fn refusal_of(answer: Result<ArchiverConf, ConfError>) -> Result<Refusal, ConfEr
 
 /// The refusal of a text in a site whose file system is samfs1.
 fn refusal(alloc: Global, text: &[u8]) -> Result<Refusal, Fail> {
-    if text.len() > 65536 {
+    if text.len() > COMMAND_FILE_MAX {
         return Err("a long text".into());
     }
     Ok(refusal_of(read_archiver(alloc, text, b"samfs1"))?)

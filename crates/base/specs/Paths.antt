@@ -3,6 +3,7 @@ use Rattle.std.specs.Prelude.{ℕ, Bool, true, false, ◌&&◌, ◌||◌, not, L
 use Rattle.std.specs.List.{list_all, slice_split}
 use Rattle.std.specs.Char.{is_control, is_ascii_alphanumeric}
 use Rattle.std.specs.Str.{is_utf8, chars}
+use Rattle.base.specs.declared.limits.TheConstants.{NAME_MAX, PATH_MAX}
 
 -- so many bytes
 abbrev pub is_of_length : ℕ → ℕ → List ℕ → Bool
@@ -38,7 +39,7 @@ is_plain_text path = is_utf8 path && list_all is_path_char (chars path)
 -- 2 to 1,024 bytes of such a text, from a slash on, each part a name
 unfoldable pub is_legal_path : List ℕ → Bool
 is_legal_path path =
-    is_of_length 2 1024 path && is_plain_text path && begins_with_slash path && list_all is_part (parts path)
+    is_of_length 2 PATH_MAX path && is_plain_text path && begins_with_slash path && list_all is_part (parts path)
 
 -- a letter, a digit, _, - or .
 abbrev pub is_name_char : ℕ → Bool
@@ -46,4 +47,4 @@ is_name_char c = is_ascii_alphanumeric c || (c == 95) || (c == 45) || (c == 46)
 
 -- the name of an owner or a group: 1 to 32 such characters
 unfoldable pub is_legal_name : List ℕ → Bool
-is_legal_name name = is_of_length 1 32 name && list_all is_name_char name
+is_legal_name name = is_of_length 1 NAME_MAX name && list_all is_name_char name

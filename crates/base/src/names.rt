@@ -5,6 +5,7 @@ ghost use Rattle.std.specs.List.{list_all, slice_split};
 ghost use Rattle.std.specs.Str.{chars};
 ghost use Rattle.base.specs.Paths.{is_path_char, is_part, parts, is_legal_path, is_name_char, is_legal_name, begins_with_slash, is_of_length, is_plain_text};
 
+use crate::limits::{NAME_MAX, PATH_MAX};
 use std::str;
 
 fn is_path_char(c: char) -> bool
@@ -77,7 +78,10 @@ fn is_of_length(least: usize, most: usize, text: &[u8]) -> bool
 pub fn is_legal_path(path: &[u8]) -> bool
     ensures { result ≡ is_legal_path path.now }
 {
-    is_of_length(2, 1024, path) && is_plain_text(path) && begins_with_slash(path) && has_parts(path)
+    is_of_length(2, PATH_MAX, path)
+        && is_plain_text(path)
+        && begins_with_slash(path)
+        && has_parts(path)
 }
 
 /// Whether this text with a `/` before it is the path of a file: at most 1,023 bytes.
@@ -85,7 +89,7 @@ pub fn is_legal_path(path: &[u8]) -> bool
 pub fn is_legal_below_root(rest: &[u8]) -> bool
     ensures { result ≡ is_legal_path (47 ∷ rest.now) }
 {
-    is_of_length(1, 1023, rest) && is_plain_text(rest) && are_parts(rest)
+    is_of_length(1, PATH_MAX - 1, rest) && is_plain_text(rest) && are_parts(rest)
 }
 
 fn is_name_char(c: u8) -> bool
@@ -105,5 +109,5 @@ fn has_name_chars(name: &[u8]) -> bool
 pub fn is_legal_name(name: &[u8]) -> bool
     ensures { result ≡ is_legal_name name.now }
 {
-    is_of_length(1, 32, name) && has_name_chars(name)
+    is_of_length(1, NAME_MAX, name) && has_name_chars(name)
 }

@@ -1,5 +1,6 @@
 -- What the five command files of a site say, and which of them is the first that is wrong: apart from any order of reading.
-use Rattle.std.specs.Prelude.{◌≡◌, ℕ, ◌^◌, ◌≤◌, List, length, Option, Result, Ok, Err, unwrap_or}
+use Rattle.std.specs.Prelude.{◌≡◌, ℕ, ◌≤◌, List, length, Option, Result, Ok, Err, unwrap_or}
+use Rattle.base.specs.declared.limits.TheConstants.{COMMAND_FILE_MAX}
 use Rattle.site_text.specs.declared.line.Line.{Line}
 use Rattle.site_text.specs.declared.fault.ConfFault.{ConfFault}
 use Rattle.site_text.specs.declared.fault.ConfRefusal.{ConfRefusal}
@@ -31,7 +32,7 @@ use Rattle.daemon_cmds.specs.SiteTold.{name_of, cache_of, high_of, low_of, libra
 
 -- a command file has at most 65,536 bytes
 abbrev pub IsWithin : List ℕ → Type 0
-IsWithin text = length text ≤ 2 ^ 16
+IsWithin text = length text ≤ COMMAND_FILE_MAX
 
 abbrev pub AreWithin : SiteTexts → Type 0
 AreWithin texts = IsWithin texts.site × IsWithin texts.archiver × IsWithin texts.stager × IsWithin texts.releaser × IsWithin texts.recycler

@@ -1,5 +1,6 @@
 -- What the five command files say, and the first that is refused, read in steps: each file line after line.
-use Rattle.std.specs.Prelude.{◌≡◌, ℕ, ◌^◌, ◌/◌, nat_le, Bool, ◌&&◌, List, length, Option, Some, None, Result, Ok, Err}
+use Rattle.std.specs.Prelude.{◌≡◌, ℕ, ◌/◌, nat_le, Bool, ◌&&◌, List, length, Option, Some, None, Result, Ok, Err}
+use Rattle.base.specs.declared.limits.TheConstants.{COMMAND_FILE_MAX}
 use Rattle.site_text.specs.declared.fault.ConfRefusal.{ConfRefusal}
 use Rattle.site_text.specs.FileSteps.{file_reading}
 use Rattle.site_text.specs.FileRules.{no_section}
@@ -30,7 +31,7 @@ use Rattle.configuration.specs.ConfigurationRules.{site_told}
 
 -- a command file has at most 65,536 bytes
 abbrev pub is_within : List ℕ → Bool
-is_within text = nat_le (length text) (2 ^ 16)
+is_within text = nat_le (length text) COMMAND_FILE_MAX
 
 abbrev pub are_within : SiteTexts → Bool
 are_within texts = is_within texts.site && is_within texts.archiver && is_within texts.stager && is_within texts.releaser && is_within texts.recycler

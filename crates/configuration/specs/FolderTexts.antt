@@ -1,6 +1,7 @@
 -- The texts of a folder that are a site's command files.
-use Rattle.std.specs.Prelude.{◌≡◌, ℕ, ◌+◌, ◌^◌, List, [], take, codes, Option, Some, None}
+use Rattle.std.specs.Prelude.{◌≡◌, ℕ, ◌+◌, List, [], take, codes, Option, Some, None}
 use Rattle.std.specs.Option.{option_map_or}
+use Rattle.base.specs.declared.limits.TheConstants.{COMMAND_FILE_MAX}
 use Rattle.outside.specs.declared.folder.NamedText.{NamedText}
 use Rattle.outside.specs.Folders.{text_under}
 use Rattle.site_types.specs.declared.file.SiteTexts.{SiteTexts}
@@ -8,7 +9,7 @@ use Rattle.site_types.specs.declared.file.SiteTexts.{SiteTexts}
 -- The text under a name, up to its 65,537th byte: a longer one is too large for a command file, whatever follows. Where there is
 -- none it is empty.
 abbrev pub text_read : List NamedText → List ℕ → List ℕ
-text_read folder name = option_map_or (take (2 ^ 16 + 1)) (text_under folder name) []
+text_read folder name = option_map_or (take (COMMAND_FILE_MAX + 1)) (text_under folder name) []
 
 abbrev pub texts_in : List NamedText → SiteTexts
 texts_in folder = record {

@@ -8,6 +8,8 @@ ghost use Rattle.configuration.specs.ConfigurationSteps.{refusal_of, blocks_of};
 ghost use Rattle.configuration.specs.ConfigurationRules.{Readings, SayReadings, Says, IsFirstWrong};
 ghost use Rattle.configuration.specs.ConfigurationTold.{configuration_of};
 
+use base::CACHE_BLOCKS_MAX;
+
 /// Five texts say one list of readings each, and so one configuration, or there is one refusal, of the first file that is wrong.
 /// Reading them in steps gives the one or the other; the configuration is the one that is computed of them. The cache that they say has 1 to 16,777,216 blocks of 4,096 bytes.
 pub fn texts_say_one_thing()
@@ -18,5 +20,5 @@ pub fn texts_say_one_thing()
     ensures computed { (texts : SiteTexts) → refusal_of texts ≡ None → Says texts (configuration_of texts) }
     ensures computed_cache { (texts : SiteTexts) → (configuration_of texts).site.cache / 4096 ≡ blocks_of texts }
     ensures cache { (texts : SiteTexts) (configuration : Configuration) → Says texts configuration → configuration.site.cache / 4096 ≡ blocks_of texts }
-    ensures small { (texts : SiteTexts) → (1 ≤ blocks_of texts) × (blocks_of texts ≤ 16777216) }
+    ensures small { (texts : SiteTexts) → (1 ≤ blocks_of texts) × (blocks_of texts ≤ CACHE_BLOCKS_MAX) }
 {}

@@ -19,7 +19,7 @@ ghost use Rattle.configuration.specs.ConfigurationRules.{AreWithin, Says, Config
 ghost use Rattle.configuration.specs.ConfigurationSteps.{is_within, are_within, refusal_of, blocks_of, TellsRefusal, in_file};
 
 use archiver_cmd::{ArchiverConf, read_archiver};
-use base::Bytes;
+use base::{Bytes, COMMAND_FILE_MAX};
 use daemon_cmds::{
     RecyclerConf, ReleaserConf, SiteConf, StagerConf, read_recycler, read_releaser, read_site,
     read_stager,
@@ -28,9 +28,6 @@ use site_events::CommandFile;
 use site_text::{ConfError, ConfFault};
 use site_types::SiteTexts;
 use std::alloc::Global;
-
-/// The most bytes that a command file may have.
-const LONGEST_TEXT: usize = 65_536;
 
 /// The bytes of a block of the cache.
 const BLOCK_SIZE: u64 = 4096;
@@ -72,7 +69,7 @@ pub enum ConfigurationError {
 fn is_within(text: &Bytes) -> bool
     ensures { result ≡ is_within text.now }
 {
-    text.len() <= LONGEST_TEXT
+    text.len() <= COMMAND_FILE_MAX
 }
 
 /// Whether each text has at most 65,536 bytes.

@@ -1,5 +1,6 @@
 -- What a line of recycler.cmd says, and what is wrong with one, in a site.
-use Rattle.std.specs.Prelude.{◌≡◌, ◌≢◌, ℕ, ◌-◌, ◌^◌, List, [], ◌∷◌, codes, Some, None, Ok, false, ◌⊎◌}
+use Rattle.std.specs.Prelude.{◌≡◌, ◌≢◌, ℕ, List, [], ◌∷◌, codes, Some, None, Ok, false, ◌⊎◌}
+use Rattle.base.specs.declared.limits.TheConstants.{FIELD_NUMBER_MAX, FIELD_SIZE_MAX}
 use Rattle.site_text.specs.declared.fault.ConfFault.{ConfFault}
 use Rattle.site_text.specs.declared.line.Line.{Line}
 use Rattle.site_text.specs.Fields.{Field, Read, ◌>>=◌}
@@ -38,10 +39,10 @@ abbrev pub percent : (ℕ → RecycleOption) → Field → Read RecycleOption
 percent says field = number_value 0 100 field >>= λ n. Ok (says n)
 
 abbrev pub any_number : (ℕ → RecycleOption) → Field → Read RecycleOption
-any_number says field = number_value 0 999999999 field >>= λ n. Ok (says n)
+any_number says field = number_value 0 FIELD_NUMBER_MAX field >>= λ n. Ok (says n)
 
 abbrev pub any_size : (ℕ → RecycleOption) → Field → Read RecycleOption
-any_size says field = size_value 0 (2 ^ 50 - 1) field >>= λ n. Ok (says n)
+any_size says field = size_value 0 FIELD_SIZE_MAX field >>= λ n. Ok (says n)
 
 abbrev pub recycle_table : List (Field × OptionForm RecycleOption)
 recycle_table =

@@ -1,6 +1,7 @@
 -- What a line of releaser.cmd says, and what is wrong with one, behind lines that said these readings.
 use Rattle.std.specs.Prelude.{List, [], ◌∷◌, codes, Bool, true, false, ◌&&◌}
 use Rattle.std.specs.List.{list_any}
+use Rattle.base.specs.declared.limits.TheConstants.{NAME_MAX}
 use Rattle.site_text.specs.declared.fault.ConfFault.{ConfFault}
 use Rattle.site_text.specs.declared.fault.ConfFault.TheVariants.{Conflict}
 use Rattle.site_text.specs.declared.line.Line.{Line}
@@ -29,7 +30,7 @@ releaser_forms =
     ∷ (codes "weight_age_residence", weight_form weights.Residence)
     ∷ (codes "weight_size", weight_form weights.Size)
     ∷ (codes "min_residence_age", one_number age_value (λ n. readings.Set (settings.MinResidenceAge n)))
-    ∷ (codes "fs", one_text (name_value 32) readings.Part)
+    ∷ (codes "fs", one_text (name_value NAME_MAX) readings.Part)
     ∷ (codes "logfile", ignored_form readings.Nothing)
     ∷ (codes "list_size", ignored_form readings.Nothing)
     ∷ (codes "display_all_candidates", ignored_form readings.Nothing)

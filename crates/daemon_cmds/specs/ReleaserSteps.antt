@@ -2,6 +2,7 @@
 use Rattle.std.specs.Prelude.{◌≡◌, ℕ, List, [], ◌∷◌, ◌++◌, codes, Option, Some, None, Bool, true, false, ◌&&◌, ◌||◌, not, is_some, unwrap_or, if◌then◌else◌, option_map, option_and_then}
 use Rattle.std.specs.List.{list_any}
 use Rattle.std.specs.Option.{option_or}
+use Rattle.base.specs.declared.limits.TheConstants.{NAME_MAX}
 use Rattle.site_text.specs.declared.fault.ConfFault.{ConfFault}
 use Rattle.site_text.specs.declared.fault.ConfFault.TheVariants.{Conflict}
 use Rattle.site_text.specs.declared.line.Line.{Line}
@@ -134,7 +135,7 @@ age_names =
 abbrev pub form_of : ReleaserDirective → Form ReleaserReading
 form_of (directives.Weight weight) = weight_form weight
 form_of directives.MinResidenceAge = one_number age_value (λ n. readings.Set (settings.MinResidenceAge n))
-form_of directives.FileSystem = one_text (name_value 32) readings.Part
+form_of directives.FileSystem = one_text (name_value NAME_MAX) readings.Part
 form_of directives.Ignored = ignored_form readings.Nothing
 
 abbrev pub word_form : ReleaserWord → Form ReleaserReading

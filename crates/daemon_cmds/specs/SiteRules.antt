@@ -1,7 +1,8 @@
 -- What a line of site.conf says, and what is wrong with one, behind lines that said these readings.
-use Rattle.std.specs.Prelude.{ℕ, ◌^◌, not, List, [], ◌∷◌, codes, length, position, Option, Some, None, Ok, Bool, false, is_some, nat_lt, nat_le}
+use Rattle.std.specs.Prelude.{ℕ, ◌*◌, ◌^◌, not, List, [], ◌∷◌, codes, length, position, Option, Some, None, Ok, Bool, false, is_some, nat_lt, nat_le}
 use Rattle.std.specs.List.{list_any}
 use Rattle.std.specs.Str.{bytes_eq}
+use Rattle.base.specs.declared.limits.TheConstants.{CACHE_BLOCKS_MAX, NAME_MAX, VOLUME_COUNT_MAX}
 use Rattle.site_text.specs.declared.fault.ConfFault.{ConfFault}
 use Rattle.site_text.specs.declared.fault.ConfFault.TheVariants.{BadValue, TooMany, Conflict, Duplicate}
 use Rattle.site_text.specs.declared.line.Line.{Line}
@@ -24,18 +25,18 @@ library_place libraries name = position (λ l. bytes_eq l.name name) libraries
 
 -- a name of at most 32 bytes that no library so far has
 unfoldable pub new_library : List Library → Field → Read Field
-new_library libraries name = refuse_if (not (is_name 32 name)) BadValue >>= λ fine. refuse_if (is_some (library_place libraries name)) Duplicate >>= λ fresh. Ok name
+new_library libraries name = refuse_if (not (is_name NAME_MAX name)) BadValue >>= λ fine. refuse_if (is_some (library_place libraries name)) Duplicate >>= λ fresh. Ok name
 
 -- a name that a library so far has
 unfoldable pub known_library : List Library → Field → Read ℕ
-known_library libraries name = refuse_if (not (is_name 32 name)) BadValue >>= λ fine. wanted (library_place libraries name) Conflict
+known_library libraries name = refuse_if (not (is_name NAME_MAX name)) BadValue >>= λ fine. wanted (library_place libraries name) Conflict
 
 abbrev pub has_vsn : List Volume → Field → Bool
 has_vsn volumes vsn = list_any (λ v. bytes_eq v.vsn vsn) volumes
 
 -- a VSN of at most 32 bytes that no volume so far has
 unfoldable pub new_vsn : List Volume → Field → Read Field
-new_vsn volumes vsn = refuse_if (not (is_name 32 vsn)) BadValue >>= λ fine. refuse_if (has_vsn volumes vsn) Duplicate >>= λ fresh. Ok vsn
+new_vsn volumes vsn = refuse_if (not (is_name NAME_MAX vsn)) BadValue >>= λ fine. refuse_if (has_vsn volumes vsn) Duplicate >>= λ fresh. Ok vsn
 
 -- a low mark is given, and is above this high mark
 abbrev pub low_above : Option ℕ → ℕ → Bool
@@ -69,8 +70,8 @@ volume_form libraries volumes = number (known_library libraries) (λ library. te
 
 abbrev pub site_forms : List SiteReading → FormTable SiteReading
 site_forms before =
-    (codes "fs", one_text (name_value 32) readings.FileSystem)
-    ∷ (codes "cache", one_number (multiple_value 4096 4096 (2 ^ 36)) readings.Cache)
+    (codes "fs", one_text (name_value NAME_MAX) readings.FileSystem)
+    ∷ (codes "cache", one_number (multiple_value 4096 4096 (CACHE_BLOCKS_MAX * 4096)) readings.Cache)
     ∷ (codes "high", one_number (high_value (low_of before)) readings.High)
     ∷ (codes "low", one_number (low_value (high_of before)) readings.Low)
     ∷ (codes "library", library_form (libraries_of before))
@@ -85,7 +86,7 @@ site_bars before =
     ∷ (codes "high", if_so (is_some (high_of before)) Duplicate)
     ∷ (codes "low", if_so (is_some (low_of before)) Duplicate)
     ∷ (codes "library", if_so (nat_le 64 (length (libraries_of before))) TooMany)
-    ∷ (codes "volume", if_so (nat_le 1024 (length (volumes_of before))) TooMany)
+    ∷ (codes "volume", if_so (nat_le VOLUME_COUNT_MAX (length (volumes_of before))) TooMany)
     ∷ []
 
 -- ---- lines

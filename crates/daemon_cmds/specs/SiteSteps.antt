@@ -1,5 +1,6 @@
 -- Reading a line of site.conf in steps, by what the code keeps of the lines before it.
-use Rattle.std.specs.Prelude.{◌≡◌, List, [], ◌∷◌, ◌++◌, codes, length, Option, Some, None, is_some, nat_le, option_map, option_and_then, ◌^◌}
+use Rattle.std.specs.Prelude.{◌≡◌, ◌*◌, List, [], ◌∷◌, ◌++◌, codes, length, Option, Some, None, is_some, nat_le, option_map, option_and_then}
+use Rattle.base.specs.declared.limits.TheConstants.{CACHE_BLOCKS_MAX, NAME_MAX, VOLUME_COUNT_MAX}
 use Rattle.site_text.specs.declared.fault.ConfFault.{ConfFault}
 use Rattle.site_text.specs.declared.fault.ConfFault.TheVariants.{TooMany, Duplicate}
 use Rattle.site_text.specs.declared.line.Line.{Line}
@@ -49,8 +50,8 @@ site_words =
     ∷ (codes "library", Library) ∷ (codes "volume", Volume) ∷ []
 
 abbrev pub form_of : SiteSoFar → SiteDirective → Form SiteReading
-form_of known FileSystem = one_text (name_value 32) readings.FileSystem
-form_of known Cache = one_number (multiple_value 4096 4096 (2 ^ 36)) readings.Cache
+form_of known FileSystem = one_text (name_value NAME_MAX) readings.FileSystem
+form_of known Cache = one_number (multiple_value 4096 4096 (CACHE_BLOCKS_MAX * 4096)) readings.Cache
 form_of known High = one_number (high_value known.low) readings.High
 form_of known Low = one_number (low_value known.high) readings.Low
 form_of known Library = library_form known.libraries
@@ -62,7 +63,7 @@ bar_of known Cache = if_so (is_some known.cache) Duplicate
 bar_of known High = if_so (is_some known.high) Duplicate
 bar_of known Low = if_so (is_some known.low) Duplicate
 bar_of known Library = if_so (nat_le 64 (length known.libraries)) TooMany
-bar_of known Volume = if_so (nat_le 1024 (length known.volumes)) TooMany
+bar_of known Volume = if_so (nat_le VOLUME_COUNT_MAX (length known.volumes)) TooMany
 
 abbrev pub form_by_word : SiteSoFar → Lookup SiteReading
 form_by_word known name = option_map (form_of known) (named site_words name)

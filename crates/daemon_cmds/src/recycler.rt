@@ -10,7 +10,7 @@ ghost use Rattle.daemon_cmds.specs.RecyclerSteps.{recycler_line, with_option, wi
 use crate::recycler_conf::{LibraryRecycling, RecycleOption, RecyclerConf, RecyclerReading};
 use crate::recycler_lines::read_recycler_line;
 use crate::site_conf::{Library, SiteConf};
-use base::List;
+use base::{COMMAND_FILE_MAX, List};
 use site_text::{CommandFile, ConfError, Line, LineError, each_text_says_one_thing, read_file};
 use std::alloc::{AllocError, Global};
 
@@ -139,7 +139,7 @@ impl CommandFile for RecyclerFile<'_> {
 /// What a text of recycler.cmd says in this site, or its first wrong line and what is wrong with it. A library without a line is
 /// recycled from 95 percent on, one volume at a time with a gain of at least 60 percent and 1 GiB of copies to move.
 pub fn read_recycler(alloc: Global, text: &[u8], site: &SiteConf) -> Result<RecyclerConf, ConfError>
-    requires { length text.now ≤ 65536 }
+    requires { length text.now ≤ COMMAND_FILE_MAX }
     ensures answer { FileAnswers (RecyclerLineSays site.now) (RecyclerLineWrong site.now) no_section (TellsRecycler site.now) text.now result }
     ensures each_library { IfOk result (λ conf. length conf.libraries ≡ length site.now.libraries) }
 {

@@ -12,7 +12,7 @@ ghost use Rattle.daemon_cmds.specs.RecyclerSteps.{is_no_recycle, recycle_words, 
 use crate::recycler_conf::{NoRecycle, RecycleOption, RecyclerReading};
 use crate::site_conf::Library;
 use crate::site_lines::library_place;
-use base::{Bytes, List};
+use base::{Bytes, FIELD_NUMBER_MAX, FIELD_SIZE_MAX, List};
 use site_text::{
     ConfFault, Fields, Line, LineError, OptionTable, TableOption, is_media, number_value,
     option_named, read_ignored, read_options, size_value, value_line,
@@ -47,12 +47,6 @@ const WORDS: [(&[u8], RecycleWord); 6] = [
     (b"-ignore", RecycleWord::Ignore),
     (b"-mail", RecycleWord::Valued(ValuedOption::Mail)),
 ];
-
-/// The greatest number that a field can say.
-const MOST_NUMBER: u32 = 999_999_999;
-
-/// The greatest size in bytes that a field can say.
-const MOST_SIZE: u64 = (1 << 50) - 1;
 
 fn word_named(field: &[u8]) -> Result<RecycleWord, ConfFault>
     ensures { result ≡ option_named recycle_words field.now }
@@ -98,10 +92,12 @@ impl OptionTable for RecycleOptions {
             ValuedOption::Hwm => Ok(RecycleOption::Hwm(number_value(0, 100, field)?)),
             ValuedOption::MinGain => Ok(RecycleOption::MinGain(number_value(0, 100, field)?)),
             ValuedOption::VsnCount => {
-                Ok(RecycleOption::VsnCount(number_value(0, MOST_NUMBER, field)?))
+                Ok(RecycleOption::VsnCount(number_value(0, FIELD_NUMBER_MAX, field)?))
             }
             ValuedOption::DataQuantity => Ok(RecycleOption::DataQuantity(size_value(
-                0, MOST_SIZE, field,
+                0,
+                FIELD_SIZE_MAX,
+                field,
             )?)),
             ValuedOption::Mail => Ok(RecycleOption::Nothing),
         }

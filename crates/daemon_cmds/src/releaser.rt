@@ -13,7 +13,7 @@ use crate::releaser_conf::{
 };
 use crate::releaser_lines::read_releaser_line;
 use crate::site_conf::SiteConf;
-use base::{Bytes, List};
+use base::{Bytes, COMMAND_FILE_MAX, List};
 use site_text::{CommandFile, ConfError, Line, LineError, each_text_says_one_thing, read_file};
 use std::alloc::{AllocError, Global};
 
@@ -212,7 +212,7 @@ pub fn conf_of(local: &Settings, global: &Settings) -> ReleaserConf
 /// What a text of releaser.cmd says in this site, or its first wrong line and what is wrong with it. An empty text says weights
 /// of 1.0 for the least age and for the size, a residence of at least 600 seconds, and that files are released.
 pub fn read_releaser(alloc: Global, text: &[u8], site: &SiteConf) -> Result<ReleaserConf, ConfError>
-    requires { length text.now ≤ 65536 }
+    requires { length text.now ≤ COMMAND_FILE_MAX }
     ensures { FileAnswers ReleaserLineSays ReleaserLineWrong no_section (TellsReleaser site.now) text.now result }
 {
     match read_file(alloc, &ReleaserFile { site }, text) {

@@ -13,7 +13,7 @@ ghost use Rattle.daemon_cmds.specs.ReleaserSteps.{releaser_names, releaser_words
 ghost use Rattle.daemon_cmds.specs.declared.releaser_lines.ReleaserDirective.TheVariants as directives;
 
 use crate::releaser_conf::{PartSetting, ReleaserReading, Setting, Weight};
-use base::{Bytes, List};
+use base::{Bytes, List, NAME_MAX};
 use site_text::{
     ConfFault, Fields, LineError, age_value, find_word, is_name, read_ignored, value_line,
     weight_value,
@@ -118,7 +118,7 @@ fn part_line(alloc: Global, values: Fields) -> Result<ReleaserReading, LineError
 {
     let mut values = values;
     let name = values.next()?;
-    if !is_name(32, name) {
+    if !is_name(NAME_MAX, name) {
         return Err(LineError::Fault(ConfFault::BadValue));
     }
     values.end()?;

@@ -11,7 +11,7 @@ ghost use Rattle.daemon_cmds.specs.SiteSteps.{site_line, KnowsSite, with_site_re
 
 use crate::site_conf::{SiteConf, SiteReading, SiteSoFar};
 use crate::site_lines::read_site_line;
-use base::{Bytes, List};
+use base::{Bytes, COMMAND_FILE_MAX, List};
 use site_text::{CommandFile, ConfError, Line, LineError, each_text_says_one_thing, read_file};
 use std::alloc::{AllocError, Global};
 
@@ -129,7 +129,7 @@ fn with_defaults(alloc: Global, known: SiteSoFar) -> Result<SiteConf, AllocError
 /// The site that a text of site.conf says, or its first wrong line and what is wrong with it. An empty text says the default
 /// site: file system `samfs1`, a cache of 64 MiB, marks at 80 and 70 percent, no library and no volume.
 pub fn read_site(alloc: Global, text: &[u8]) -> Result<SiteConf, ConfError>
-    requires { length text.now ≤ 65536 }
+    requires { length text.now ≤ COMMAND_FILE_MAX }
     ensures answer { FileAnswers SiteLineSays SiteLineWrong no_section TellsSite text.now result }
     ensures known_libraries { IfOk result (λ site. All (λ v. v.library < length site.libraries) site.volumes) }
 {

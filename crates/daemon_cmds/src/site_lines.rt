@@ -11,7 +11,7 @@ ghost use Rattle.daemon_cmds.specs.SiteSteps.{site_words, form_of, bar_of, form_
 ghost use Rattle.daemon_cmds.specs.declared.site_lines.SiteDirective.TheVariants as directives;
 
 use crate::site_conf::{Library, SiteReading, SiteSoFar, Volume};
-use base::Bytes;
+use base::{Bytes, CACHE_BLOCKS_MAX, NAME_MAX, VOLUME_COUNT_MAX};
 use site_text::{
     ConfFault, Fields, LineError, find_word, is_media, is_name, multiple_value, number_value,
     refuse_if, value_line,
@@ -19,16 +19,13 @@ use site_text::{
 use std::alloc::Global;
 
 /// The limit on the size of a cache, in bytes.
-const MOST_CACHE: u64 = 1 << 36;
+const MOST_CACHE: u64 = CACHE_BLOCKS_MAX as u64 * 4096;
 
 /// The limit on the capacity of a volume, in bytes.
 const MOST_CAPACITY: u64 = 1 << 45;
 
 /// The limit on the number of libraries.
 const MOST_LIBRARIES: usize = 64;
-
-/// The limit on the number of volumes.
-const MOST_VOLUMES: usize = 1024;
 
 /// A directive of site.conf.
 #[derive(Clone, Copy, PartialEq, Eq)]
@@ -74,7 +71,7 @@ fn has_vsn(volumes: &[Volume], vsn: &[u8]) -> bool
 fn new_library<'a>(libraries: &[Library], name: &'a [u8]) -> Result<&'a [u8], ConfFault>
     ensures { map_read (λ n. n.now) result ≡ new_library libraries.now name.now }
 {
-    refuse_if(!is_name(32, name), ConfFault::BadValue)?;
+    refuse_if(!is_name(NAME_MAX, name), ConfFault::BadValue)?;
     refuse_if(
         library_place(libraries, name).is_some(),
         ConfFault::Duplicate,
@@ -86,7 +83,7 @@ fn new_library<'a>(libraries: &[Library], name: &'a [u8]) -> Result<&'a [u8], Co
 fn known_library(libraries: &[Library], name: &[u8]) -> Result<usize, ConfFault>
     ensures { result ≡ known_library libraries.now name.now }
 {
-    refuse_if(!is_name(32, name), ConfFault::BadValue)?;
+    refuse_if(!is_name(NAME_MAX, name), ConfFault::BadValue)?;
     library_place(libraries, name).ok_or(ConfFault::Conflict)
 }
 
@@ -94,7 +91,7 @@ fn known_library(libraries: &[Library], name: &[u8]) -> Result<usize, ConfFault>
 fn new_vsn<'a>(volumes: &[Volume], vsn: &'a [u8]) -> Result<&'a [u8], ConfFault>
     ensures { map_read (λ n. n.now) result ≡ new_vsn volumes.now vsn.now }
 {
-    refuse_if(!is_name(32, vsn), ConfFault::BadValue)?;
+    refuse_if(!is_name(NAME_MAX, vsn), ConfFault::BadValue)?;
     refuse_if(has_vsn(volumes, vsn), ConfFault::Duplicate)?;
     Ok(vsn)
 }
@@ -146,7 +143,7 @@ fn file_system_line(
 {
     let mut values = values;
     let name = values.next()?;
-    if !is_name(32, name) {
+    if !is_name(NAME_MAX, name) {
         return Err(LineError::Fault(ConfFault::BadValue));
     }
     values.end()?;
@@ -232,7 +229,7 @@ fn site_bar(known: &SiteSoFar, directive: SiteDirective) -> Option<ConfFault>
         SiteDirective::High => (known.high.is_some(), ConfFault::Duplicate),
         SiteDirective::Low => (known.low.is_some(), ConfFault::Duplicate),
         SiteDirective::Library => (known.libraries.len() >= MOST_LIBRARIES, ConfFault::TooMany),
-        SiteDirective::Volume => (known.volumes.len() >= MOST_VOLUMES, ConfFault::TooMany),
+        SiteDirective::Volume => (known.volumes.len() >= VOLUME_COUNT_MAX, ConfFault::TooMany),
     };
     if barred { Some(fault) } else { None }
 }

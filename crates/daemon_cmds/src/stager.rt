@@ -10,7 +10,7 @@ ghost use Rattle.daemon_cmds.specs.StagerSteps.{stager_line, with_stager_reading
 use crate::site_conf::{Library, SiteConf};
 use crate::stager_conf::{StagerConf, StagerReading};
 use crate::stager_lines::read_stager_line;
-use base::List;
+use base::{COMMAND_FILE_MAX, List};
 use site_text::{CommandFile, ConfError, Line, LineError, each_text_says_one_thing, read_file};
 use std::alloc::{AllocError, Global};
 
@@ -120,7 +120,7 @@ impl CommandFile for StagerFile<'_> {
 /// What a text of stager.cmd says in this site, or its first wrong line and what is wrong with it. An empty text says that all
 /// drives of each library stage, up to 4,000 files in the queue, and the copies in the order 1 to 4.
 pub fn read_stager(alloc: Global, text: &[u8], site: &SiteConf) -> Result<StagerConf, ConfError>
-    requires { length text.now ≤ 65536 }
+    requires { length text.now ≤ COMMAND_FILE_MAX }
     ensures answer { FileAnswers (StagerLineSays site.now) (StagerLineWrong site.now) no_section (TellsStager site.now) text.now result }
     ensures each_library { IfOk result (λ conf. length conf.drives ≡ length site.now.libraries) }
 {

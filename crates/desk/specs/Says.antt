@@ -1,6 +1,7 @@
 -- What a line looks like that asks something, and which of its words is the first wrong one.
 use Rattle.std.specs.Prelude.{◌≡◌, ℕ, ◌+◌, ◌<◌, ◌≤◌, List, [], ◌∷◌, ◌++◌, length, take, drop, Option, Some, None, true, ◌⊎◌}
 use Rattle.std.specs.List.{list_all}
+use Rattle.base.specs.declared.limits.TheConstants.{LINE_MAX}
 use Rattle.site_text.specs.Numbers.{number_within}
 use Rattle.site_text.specs.Words.{named}
 use Rattle.site_events.specs.declared.event.Asked.{Asked}
@@ -110,7 +111,7 @@ pub record Names (line : List ℕ) (command : Command) (rest : List ℕ) : Type 
   pub named : named commands name ≡ Some command
 
 pub record LineAsks (line : List ℕ) (asked : Asked) : Type 0 where
-  pub short : length line ≤ 4096
+  pub short : length line ≤ LINE_MAX
   pub command : Command
   pub rest : List ℕ
   pub names : Names line command rest
@@ -132,7 +133,7 @@ pub record HasBadWord (line : List ℕ) (number : ℕ) : Type 0 where
   pub wrong : FirstWrong (forms_of command) 2 rest number
 
 abbrev pub LineWrong : List ℕ → LineRefusal → Type 0
-LineWrong line LineTooLong = 4096 < length line
-LineWrong line NotACommand = (length line ≤ 4096) × (IsBlank line ⊎ NamesNone line)
-LineWrong line (BadWord number) = (length line ≤ 4096) × HasBadWord line number
+LineWrong line LineTooLong = LINE_MAX < length line
+LineWrong line NotACommand = (length line ≤ LINE_MAX) × (IsBlank line ⊎ NamesNone line)
+LineWrong line (BadWord number) = (length line ≤ LINE_MAX) × HasBadWord line number
 LineWrong line NoMemory = ⊥

@@ -7,6 +7,7 @@ ghost use Rattle.desk.specs.Asks.{commands, asked_by, Answers};
 
 use crate::made::make_bytes;
 use crate::words::Words;
+use base::{END_OF_TIME, FILE_SIZE_MAX};
 use site_events::{Asked, Event, LineRefusal};
 use site_text::find_word;
 use std::alloc::Global;
@@ -36,9 +37,6 @@ const COMMANDS: [(&[u8], Command); 7] = [
 /// The digits of a number word.
 const DIGITS: usize = 20;
 
-/// The length of the longest file, in bytes.
-const LONGEST_FILE: u64 = 16_777_216;
-
 pub fn find_command(word: &[u8]) -> Option<Command>
     ensures { result ≡ named commands word.now }
 {
@@ -48,7 +46,7 @@ pub fn find_command(word: &[u8]) -> Option<Command>
 pub fn at(mut words: Words) -> Result<Asked, LineRefusal>
     ensures { Answers result (asked_by Command.At words.entry) }
 {
-    let moment = words.number(2, DIGITS, 0, (1 << 40) - 1)?;
+    let moment = words.number(2, DIGITS, 0, END_OF_TIME - 1)?;
     words.end(3)?;
     Ok(Asked::At(moment))
 }
@@ -76,7 +74,7 @@ pub fn cat(alloc: Global, mut words: Words) -> Result<Asked, LineRefusal>
     words.end(3)?;
     Ok(Asked::One(Event::Read {
         path,
-        upto: LONGEST_FILE as u32,
+        upto: FILE_SIZE_MAX as u32,
     }))
 }
 
@@ -84,7 +82,7 @@ pub fn head(alloc: Global, mut words: Words) -> Result<Asked, LineRefusal>
     ensures { Answers result (asked_by Command.Head words.entry) }
 {
     let path = words.word(alloc, 2)?;
-    let upto = words.number(3, DIGITS, 0, LONGEST_FILE)?;
+    let upto = words.number(3, DIGITS, 0, FILE_SIZE_MAX)?;
     words.end(4)?;
     Ok(Asked::One(Event::Read {
         path,

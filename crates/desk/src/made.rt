@@ -3,12 +3,12 @@
 ghost use Rattle.std.specs.Prelude.{◌≡◌, ◌<◌, ◌^◌, IfOk, MatchResult};
 ghost use Rattle.desk.specs.Asks.{made_bytes};
 
-use base::Bytes;
+use base::{Bytes, FILE_SIZE_MAX};
 use site_events::LineRefusal;
 use std::alloc::{AllocError, Global};
 
 /// At most so many bytes are made: one more than the longest file has.
-const MOST_MADE: u64 = 16_777_217;
+const MOST_MADE: u64 = FILE_SIZE_MAX + 1;
 
 #[tactic(auto, using(crate::proofs::MadeBytes::one_more_made), unfolding(crate::specs::Asks::made_bytes))]
 fn made(alloc: Global, size: u64, seed: u64) -> Result<Bytes, AllocError>

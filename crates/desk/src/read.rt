@@ -7,11 +7,9 @@ ghost use Rattle.desk.specs.Forms.{is_blank};
 
 use crate::commands::{Command, at, cat, configure, find_command, head, make, put, remove};
 use crate::words::{Words, is_blank};
+use base::LINE_MAX;
 use site_events::{Asked, LineRefusal};
 use std::alloc::Global;
-
-/// A line has at most so many bytes, its end left out.
-const LONGEST_LINE: usize = 4096;
 
 /// What the command asks by the words behind it.
 fn asked_by(alloc: Global, command: Command, words: Words) -> Result<Asked, LineRefusal>
@@ -48,7 +46,7 @@ fn read_command(alloc: Global, line: &[u8]) -> Result<Asked, LineRefusal>
 pub fn read_line(alloc: Global, line: &[u8]) -> Result<Asked, LineRefusal>
     ensures { Answers result (asked_of line.now) }
 {
-    if line.len() > LONGEST_LINE {
+    if line.len() > LINE_MAX {
         return Err(LineRefusal::LineTooLong);
     }
     read_command(alloc, line)
@@ -75,5 +73,5 @@ fn is_blank_line(line: &[u8]) -> bool
 pub fn is_skipped(line: &[u8]) -> bool
     ensures { result ≡ is_skipped line.now }
 {
-    line.len() <= LONGEST_LINE && (begins_comment(line) || is_blank_line(line))
+    line.len() <= LINE_MAX && (begins_comment(line) || is_blank_line(line))
 }

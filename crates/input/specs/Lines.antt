@@ -1,5 +1,6 @@
 -- The lines of a text.
 use Rattle.std.specs.Prelude.{ℕ, List, [], ◌∷◌, ◌++◌, length, Bool, true, false, cond, nat_le, nat_eq}
+use Rattle.base.specs.declared.limits.TheConstants.{LINE_MAX}
 
 -- a line without its end, or one of over 4,096 bytes
 pub data RawLine : Type 0 where
@@ -8,7 +9,7 @@ pub data RawLine : Type 0 where
 
 -- a line of at most 4,096 bytes is kept
 abbrev pub line_of : List ℕ → RawLine
-line_of line = cond (nat_le (length line) 4096) (Kept line) Long
+line_of line = cond (nat_le (length line) LINE_MAX) (Kept line) Long
 
 -- without the carriage return at its end
 abbrev pub without_return : List ℕ → List ℕ

@@ -5,8 +5,8 @@ ghost use Rattle.base.specs.Causes.{Rose};
 ghost use Rattle.input.specs.Lines.{Long, line_of};
 ghost use Rattle.input.specs.Reads.{ReadsLine, TellsLine};
 
-use crate::line_buffer::LONGEST_LINE;
 use crate::reader::{Reader, Stop};
+use base::LINE_MAX;
 use outside::Source;
 
 /// What a call that reads a line gave.
@@ -63,7 +63,7 @@ pub fn next_line<S: Source>(reader: &mut Reader, source: &mut S) -> LineRead
 fn whole(line: &[u8], long: bool) -> LineRead
     ensures { TellsLine result line.now (if long then Long else line_of line.now) }
 {
-    if long || line.len() > LONGEST_LINE {
+    if long || line.len() > LINE_MAX {
         LineRead::TooLong
     } else {
         LineRead::Line

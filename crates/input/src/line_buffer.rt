@@ -3,11 +3,9 @@
 ghost use Rattle.std.specs.Prelude.{◌≡◌, ◌<◌, ◌≤◌, ◌↔◌, [], ◌∷◌, ◌++◌, length, IsTrue, IfOk};
 ghost use Rattle.input.specs.Lines.{without_return};
 
+use base::LINE_MAX;
 use std::alloc::{AllocError, Global};
 use std::marker::Model;
-
-/// How many bytes a line can have, without its end.
-pub const LONGEST_LINE: usize = 4096;
 
 /// A line of at most 4,096 bytes and a carriage return. It has its memory from the start.
 #[derive(Drop)]
@@ -16,13 +14,14 @@ pub struct LineBuffer {
 }
 
 impl Model for LineBuffer {
-    ghost use Rattle.std.specs.Prelude.{ℕ, List, ◌≤◌, vec_capacity};
+    ghost use Rattle.std.specs.Prelude.{ℕ, List, ◌<◌, vec_capacity};
+    ghost use Rattle.base.specs.declared.limits.TheConstants.{LINE_MAX};
 
     ghost Value = { List ℕ };
 
     ghost view = { λ l. l.bytes.items };
 
-    ghost invariant = { λ l. 4097 ≤ vec_capacity l.bytes };
+    ghost invariant = { λ l. LINE_MAX < vec_capacity l.bytes };
 }
 
 impl LineBuffer {
@@ -31,7 +30,7 @@ impl LineBuffer {
         ensures { IfOk result (λ l. l ≡ []) }
     {
         Ok(LineBuffer {
-            bytes: Vec::with_capacity(alloc, LONGEST_LINE + 1)?,
+            bytes: Vec::with_capacity(alloc, LINE_MAX + 1)?,
         })
     }
 
@@ -56,7 +55,7 @@ impl LineBuffer {
 
     /// Adds a byte at the end.
     pub fn push(&mut self, byte: u8)
-        requires { length self.old < 4097 }
+        requires { length self.old ≤ LINE_MAX }
         ensures { self.new ≡ self.old ++ byte ∷ [] }
     {
         self.bytes.push_reserved(byte);

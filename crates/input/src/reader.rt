@@ -6,8 +6,9 @@ ghost use Rattle.input.specs.Lines.{without_return};
 ghost use Rattle.input.specs.Reading.{Begins};
 ghost use Rattle.input.specs.Bytes.{NextIs, Refills};
 
-use crate::line_buffer::{LONGEST_LINE, LineBuffer};
+use crate::line_buffer::LineBuffer;
 use crate::piece::Piece;
+use base::LINE_MAX;
 use outside::Source;
 use std::alloc::{AllocError, Global};
 use std::marker::Model;
@@ -124,14 +125,14 @@ impl Reader {
 
     // Whether the line buffer has no room.
     pub(crate) fn is_full(&self) -> bool
-        ensures { IsTrue result ↔ (4097 ≤ length self.now.line) }
+        ensures { IsTrue result ↔ (LINE_MAX < length self.now.line) }
     {
-        self.line.len() > LONGEST_LINE
+        self.line.len() > LINE_MAX
     }
 
     // Adds a byte to the line.
     pub(crate) fn keep(&mut self, byte: u8)
-        requires { length self.old.line < 4097 }
+        requires { length self.old.line ≤ LINE_MAX }
         ensures { self.new ≡ record self.old { line = self.old.line ++ byte ∷ [] } }
     {
         self.line.push(byte);

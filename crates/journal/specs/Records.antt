@@ -1,12 +1,13 @@
 -- A journal: records from a place on, each of a gate, a length and a payload.
 use Rattle.std.specs.Prelude.{◌≡◌, ◌≢◌, ◌⊎◌, ℕ, ◌+◌, ◌^◌, ◌<◌, ◌≤◌, List, [], ◌∷◌, ◌++◌, length}
 use Rattle.std.specs.Int.{w32, to_le_bytes}
+use Rattle.base.specs.declared.limits.TheConstants.{PAYLOAD_MAX}
 use Rattle.bank.specs.Content.{Content, Image, Stands}
 use Rattle.bank.specs.View.{View}
 
 -- a payload has 1 to 1,048,576 bytes
 abbrev pub IsPayload : List ℕ → Type 0
-IsPayload payload = (0 < length payload) × (length payload ≤ 1048576)
+IsPayload payload = (0 < length payload) × (length payload ≤ PAYLOAD_MAX)
 
 -- what stands behind the gate: the length in four bytes, the least first, and the payload
 unfoldable pub frame : List ℕ → List ℕ
@@ -40,7 +41,7 @@ pub record HoldsRecords (c : Content) (place : ℕ) (payloads : List (List ℕ))
 
 -- a length that no record at this place has: 0, over 1,048,576, or past the area
 abbrev pub IsBadLength : ℕ → ℕ → ℕ → Type 0
-IsBadLength place size n = (n ≡ 0) ⊎ (1048576 < n) ⊎ (size < place + 5 + n)
+IsBadLength place size n = (n ≡ 0) ⊎ (PAYLOAD_MAX < n) ⊎ (size < place + 5 + n)
 
 -- behind records of these payloads, at this place in the area, an open gate has a length that no record there has
 pub record IsBadAt (c : Content) (place size : ℕ) (payloads : List (List ℕ)) : Type 0 where

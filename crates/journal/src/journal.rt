@@ -9,10 +9,8 @@ use crate::gate::open_gate;
 use crate::refusal::AppendRefusal;
 use crate::writing::{BUFFER_ROOM, stage};
 use bank::Bank;
+use base::JOURNAL_SIZE_MAX;
 use std::marker::Model;
-
-/// The most bytes of a journal's area.
-pub const AREA_MAX: u64 = 268_435_456;
 
 /// A journal in area 0 of a store. Contracts see its `place`, at which the next record goes, its `size`, the
 /// bytes of the area, and its `count` of records.
@@ -40,7 +38,7 @@ impl Model for Journal {
 impl Journal {
     // A journal whose next record goes to this place, behind so many records.
     pub(crate) fn behind(place: u64, size: u64, count: u64, buffer: Vec<u8>) -> Self
-        requires size { size ≤ AREA_MAX }
+        requires size { size ≤ JOURNAL_SIZE_MAX }
         requires fits { place ≤ size }
         requires few { count ≤ place }
         requires room { BUFFER_ROOM ≤ vec_capacity buffer }
@@ -59,7 +57,7 @@ impl Journal {
     /// The bytes of its area, at most 268,435,456.
     pub fn size(&self) -> u64
         ensures size { result ≡ self.now.size }
-        ensures bounded { result ≤ AREA_MAX }
+        ensures bounded { result ≤ JOURNAL_SIZE_MAX }
     {
         self.size
     }

@@ -13,6 +13,6 @@ mod refusal;
 mod window;
 mod writing;
 
-pub use journal::{AREA_MAX, Journal};
-pub use reader::{Found, PAYLOAD_MAX, Reader};
+pub use journal::Journal;
+pub use reader::{Found, Reader};
 pub use refusal::{AppendRefusal, JournalRefusal};

@@ -6,16 +6,14 @@ ghost use Rattle.bank.specs.View.{OnlyRead, OnlyContent};
 ghost use Rattle.journal.specs.Calls.{AreCounted};
 ghost use Rattle.journal.specs.Readers.{IsOver, IsFound, GoesOn};
 
-use crate::journal::{AREA_MAX, Journal};
+use crate::journal::Journal;
 use crate::refusal::JournalRefusal;
 use crate::window::{HEAD, Window};
 use crate::writing::BUFFER_ROOM;
 use bank::{Bank, BankFailed};
+use base::{JOURNAL_SIZE_MAX, PAYLOAD_MAX};
 use std::alloc::Global;
 use std::marker::Model;
-
-/// The most bytes of a record's payload.
-pub const PAYLOAD_MAX: u32 = 1_048_576;
 
 /// What stands behind the records that were read.
 #[derive(Clone, Copy, Debug, PartialEq, Eq)]
@@ -66,7 +64,7 @@ impl Reader {
     /// Begins to read the journal in the first `size` bytes of area 0, at most 268,435,456: it syncs the area, and reads its first
     /// bytes. It writes nothing.
     pub fn open<B: Bank>(alloc: Global, bank: &mut B, size: u64) -> Result<Reader, JournalRefusal>
-        requires { size ≤ AREA_MAX }
+        requires { size ≤ JOURNAL_SIZE_MAX }
 
         // No byte and no image comes that was not there, and at `Ok` a crash leaves of the area what it reads.
         ensures unchanged { IsTrue B.tells → OnlyRead (B.view bank.old) (B.view bank.new) }
@@ -104,7 +102,7 @@ impl Reader {
     /// Where the next record stands: at most 268,435,456. So many records at most were passed.
     pub fn place(&self) -> u64
         ensures place { result ≡ self.now.place }
-        ensures bounded { result ≤ AREA_MAX }
+        ensures bounded { result ≤ JOURNAL_SIZE_MAX }
         ensures few { self.now.count ≤ result }
     {
         self.place

@@ -2,15 +2,17 @@
 
 ghost use Rattle.std.specs.Prelude.{◌≡◌, ◌≢◌, ◌+◌, ◌^◌, ◌<◌, ◌≤◌, [], ◌∷◌, IsTrue, length, vec_len, OnOk, IfOk, MatchOption, slice_index, slice_range};
 ghost use Rattle.std.specs.Int.{w32, to_le_bytes};
+ghost use Rattle.base.specs.declared.limits.TheConstants.{JOURNAL_SIZE_MAX, PAYLOAD_MAX};
 ghost use Rattle.bank.specs.Content.{Stands};
 ghost use Rattle.bank.specs.View.{OnlyRead};
 ghost use Rattle.journal.specs.Calls.{AreCounted};
 
 use bank::{Bank, BankFailed};
+use base::{JOURNAL_SIZE_MAX, PAYLOAD_MAX};
 use std::alloc::{AllocError, Global};
 
 /// The bytes of a window: the longest record fits.
-pub const WINDOW_BYTES: usize = 1_048_581;
+pub const WINDOW_BYTES: usize = HEAD + PAYLOAD_MAX as usize;
 
 /// The bytes of a record before its payload: the gate and the length.
 pub const HEAD: usize = 5;
@@ -21,8 +23,8 @@ pub struct Window {
     /// The place of the first.
     pub start: u64,
     pub bytes: Vec<u8>,
-    pub ghost range: { start < 2 ^ 28 },
-    pub ghost whole: { vec_len bytes ≡ 1048581 },
+    pub ghost range: { start < JOURNAL_SIZE_MAX },
+    pub ghost whole: { vec_len bytes ≡ 5 + PAYLOAD_MAX },
 }
 
 // The length that stands behind an open gate, or none where the gate is closed.
@@ -57,7 +59,7 @@ impl Window {
 
     /// Reads all its bytes anew, from a place on.
     pub fn refill<B: Bank>(&mut self, bank: &mut B, place: u64) -> Result<(), BankFailed>
-        requires { place < 2 ^ 28 }
+        requires { place < JOURNAL_SIZE_MAX }
         ensures unchanged { IsTrue B.tells → OnlyRead (B.view bank.old) (B.view bank.new) }
         ensures stands { IsTrue B.tells → OnOk result (Stands ((B.view bank.old).content 0) place self.new.bytes.items) }
         ensures start { self.new.start ≡ place }
@@ -74,7 +76,7 @@ impl Window {
         place: u64,
         count: usize,
     ) -> Result<usize, BankFailed>
-        requires place { place < 2 ^ 28 }
+        requires place { place < JOURNAL_SIZE_MAX }
         requires count { count ≤ WINDOW_BYTES }
         ensures unchanged { IsTrue B.tells → OnlyRead (B.view bank.old) (B.view bank.new) }
         ensures over { IsTrue B.tells → Stands ((B.view bank.old).content 0) self.old.start self.old.bytes.items → OnOk result (Stands ((B.view bank.old).content 0) self.new.start self.new.bytes.items) }
@@ -99,7 +101,7 @@ impl Window {
 
     /// The length of the record at a place, or none where its gate is closed.
     pub fn head_at<B: Bank>(&mut self, bank: &mut B, place: u64) -> Result<Option<u32>, BankFailed>
-        requires { place < 2 ^ 28 }
+        requires { place < JOURNAL_SIZE_MAX }
         ensures unchanged { IsTrue B.tells → OnlyRead (B.view bank.old) (B.view bank.new) }
         ensures over { IsTrue B.tells → Stands ((B.view bank.old).content 0) self.old.start self.old.bytes.items → OnOk result (Stands ((B.view bank.old).content 0) self.new.start self.new.bytes.items) }
         ensures head { IsTrue B.tells → Stands ((B.view bank.old).content 0) self.old.start self.old.bytes.items

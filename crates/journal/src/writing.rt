@@ -1,12 +1,13 @@
 //! The writes of an append.
 
-ghost use Rattle.std.specs.Prelude.{◌≡◌, ◌+◌, ◌^◌, ◌<◌, ◌≤◌, ◌++◌, [], ◌∷◌, IsTrue, length, OnOk, vec_capacity};
+ghost use Rattle.std.specs.Prelude.{◌≡◌, ◌+◌, ◌<◌, ◌≤◌, ◌++◌, [], ◌∷◌, IsTrue, length, OnOk, vec_capacity};
 ghost use Rattle.bank.specs.Content.{Stands};
 ghost use Rattle.bank.specs.View.{Wrote, OnlyContent};
 ghost use Rattle.journal.specs.Calls.{AreCounted};
 ghost use Rattle.journal.specs.Records.{frame};
 
 use bank::{Bank, BankFailed};
+use base::JOURNAL_SIZE_MAX;
 
 /// The most bytes of a payload whose record is written by one call.
 pub const SHORT_MAX: usize = 4096;
@@ -35,7 +36,7 @@ fn write_short<B: Bank>(
     place: u64,
     payload: &[u8],
 ) -> Result<(), BankFailed>
-    requires place { place + 6 + length payload.now ≤ 2 ^ 28 }
+    requires place { place + 6 + length payload.now ≤ JOURNAL_SIZE_MAX }
     requires short { length payload.now ≤ SHORT_MAX }
     requires room { BUFFER_ROOM ≤ vec_capacity buffer.old }
     ensures wrote { IsTrue B.tells → Wrote 0 (place + 1) (5 + length payload.now) (B.view bank.old) (B.view bank.new) }
@@ -49,7 +50,7 @@ fn write_short<B: Bank>(
 
 // The same of any payload, in three writes.
 fn write_long<B: Bank>(bank: &mut B, place: u64, payload: &[u8]) -> Result<(), BankFailed>
-    requires { place + 6 + length payload.now ≤ 2 ^ 28 }
+    requires { place + 6 + length payload.now ≤ JOURNAL_SIZE_MAX }
     ensures wrote { IsTrue B.tells → Wrote 0 (place + 1) (5 + length payload.now) (B.view bank.old) (B.view bank.new) }
     ensures framed { IsTrue B.tells → OnOk result (Stands ((B.view bank.new).content 0) (place + 1) (frame payload.now ++ 0 ∷ [])) }
     ensures counted { AreCounted B.faults B.journal_faults B.last_fault bank.old bank.new result }
@@ -67,7 +68,7 @@ pub fn stage<B: Bank>(
     place: u64,
     payload: &[u8],
 ) -> Result<(), BankFailed>
-    requires place { place + 6 + length payload.now ≤ 2 ^ 28 }
+    requires place { place + 6 + length payload.now ≤ JOURNAL_SIZE_MAX }
     requires room { BUFFER_ROOM ≤ vec_capacity buffer.old }
     ensures wrote { IsTrue B.tells → Wrote 0 (place + 1) (5 + length payload.now) (B.view bank.old) (B.view bank.new) }
     ensures framed { IsTrue B.tells → OnOk result (Stands ((B.view bank.new).content 0) (place + 1) (frame payload.now ++ 0 ∷ [])) }

@@ -1,7 +1,7 @@
 //! Tests of the journal over a store in memory. The values come from the format.
 
 use bank::{Bank, BankCall, FailAt, MemoryBank};
-use base::List;
+use base::{JOURNAL_SIZE_MAX, List, PAYLOAD_MAX};
 use journal::{AppendRefusal, Found, Journal, JournalRefusal, Reader};
 use std::alloc::{AllocError, Global};
 use std::process::Abort;
@@ -23,7 +23,7 @@ fn reopened(
     bank: &mut MemoryBank,
     size: u64,
 ) -> Result<String, AllocError> {
-    assert!(rt; size <= 268435456);
+    assert!(rt; size <= JOURNAL_SIZE_MAX);
     let mut reader = match Reader::open(alloc, bank, size) {
         Ok(reader) => reader,
         Err(JournalRefusal::BankFault) => return String::from_str(alloc, "fault"),
@@ -43,7 +43,7 @@ fn reopened(
 
 // The journal behind all records in so many bytes.
 fn journal_of(rt: &impl Abort, alloc: Global, bank: &mut MemoryBank, size: u64) -> Option<Journal> {
-    assert!(rt; size <= 268435456);
+    assert!(rt; size <= JOURNAL_SIZE_MAX);
     let mut reader = Reader::open(alloc, bank, size).ok()?;
     for _ in 0..100 {
         match reader.advance(bank) {
@@ -63,7 +63,7 @@ fn appended(
     bank: &mut MemoryBank,
     length: usize,
 ) -> Result<Result<u64, AppendRefusal>, AllocError> {
-    assert!(rt; length > 0 && length <= 1048576);
+    assert!(rt; length > 0 && length <= PAYLOAD_MAX as usize);
     let payload = vec![in alloc; 7u8; length]?;
     Ok(journal.append(bank, &payload))
 }

@@ -5,10 +5,10 @@ ghost use Rattle.base.specs.Causes.{Rose};
 ghost use Rattle.outside.specs.Folders.{Answers};
 ghost use Rattle.outside.specs.declared.folder.NamedText.{NamedText};
 
-use base::Bytes;
+use base::{Bytes, COMMAND_FILE_MAX};
 
 /// The longest front of a text that is read: one byte more than a text may have.
-pub const LONGEST_READ: usize = 65_537;
+pub const LONGEST_READ: usize = COMMAND_FILE_MAX + 1;
 
 /// A name and the text that stands under it.
 #[derive(Drop)]

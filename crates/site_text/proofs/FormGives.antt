@@ -1,5 +1,5 @@
 -- What holds of all that fields of a form can say.
-use Rattle.std.proofs.Common.{◌≡◌, List, [], ◌∷◌, Some, None, Ok, Bool, true, false, cond, sym, subst, inl, inr}
+use Rattle.std.proofs.Common.{◌≡◌, List, [], ◌∷◌, Some, Ok, Bool, true, false, cond, sym, subst, inl, inr}
 use Rattle.std.specs.Str.{bytes_eq}
 use Rattle.site_text.specs.Fields.{Field}
 use Rattle.site_text.specs.Words.{named}

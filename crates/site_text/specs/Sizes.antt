@@ -1,6 +1,7 @@
 -- Sizes: 1 to 15 digits and at most one suffix `k`, `M`, `G` or `T`, of either case.
-use Rattle.std.specs.Prelude.{ℕ, ◌-◌, ◌*◌, ◌^◌, List, length, take, Option, Some, None, Result, ◌==◌, ◌||◌, if◌then◌else◌, option_map, slice_index}
+use Rattle.std.specs.Prelude.{ℕ, ◌+◌, ◌-◌, ◌*◌, ◌^◌, List, length, take, Option, Some, None, Result, ◌==◌, ◌||◌, if◌then◌else◌, option_map, slice_index}
 use Rattle.std.specs.Str.{byte}
+use Rattle.base.specs.declared.limits.TheConstants.{FIELD_SIZE_MAX}
 use Rattle.site_text.specs.declared.refusal.TextRefusal.{TextRefusal}
 use Rattle.site_text.specs.declared.refusal.TextRefusal.TheVariants.{BadSize}
 use Rattle.site_text.specs.Numbers.{number_in, below}
@@ -23,4 +24,4 @@ size_in_bytes field = by_suffix (scale_of (slice_index field (length field - 1))
     by_suffix None = number_in 15 field
 
 abbrev pub size_of : List ℕ → Result ℕ TextRefusal
-size_of field = below BadSize (2 ^ 50) (size_in_bytes field)
+size_of field = below BadSize (FIELD_SIZE_MAX + 1) (size_in_bytes field)

@@ -13,7 +13,7 @@ use crate::fault::{ConfError, ConfFault, ConfRefusal, LineError};
 use crate::line::Line;
 use crate::refusal::TextRefusal;
 use crate::text_lines::lines;
-use base::List;
+use base::{COMMAND_FILE_MAX, List};
 use std::alloc::{AllocError, Global};
 
 /// A kind of command file, with what it stands on. Its lines are read one after the other, each by what the lines before it
@@ -76,7 +76,7 @@ fn line_feeds(text: &[u8]) -> usize
 
 /// The number of the physical line on which a byte stands.
 fn line_of_byte(place: usize, text: &[u8]) -> u32
-    requires { length text.now ≤ 65536 }
+    requires { length text.now ≤ COMMAND_FILE_MAX }
     ensures { result ≡ line_of_byte place text.now }
 {
     let front = &text[..place.min(text.len())];
@@ -85,7 +85,7 @@ fn line_of_byte(place: usize, text: &[u8]) -> u32
 
 /// The lines of a text. One that is not UTF-8, or else ends in a line that goes on, is refused at that physical line.
 fn file_lines(alloc: Global, text: &[u8]) -> Result<List<Line>, ConfError>
-    requires { length text.now ≤ 65536 }
+    requires { length text.now ≤ COMMAND_FILE_MAX }
     ensures { FileLinesAnswer text.now result }
 {
     match lines(alloc, text) {
@@ -139,7 +139,7 @@ pub fn read_file<F: CommandFile>(
     file: &F,
     text: &[u8],
 ) -> Result<F::Known, ConfError>
-    requires { length text.now ≤ 65536 }
+    requires { length text.now ≤ COMMAND_FILE_MAX }
     ensures { FileAnswers (F.line_says file.now) (F.line_wrong file.now) (F.open_section file.now) (F.tells file.now) text.now result }
 {
     match file_lines(alloc, text) {

@@ -1,12 +1,13 @@
 //! Sizes in bytes.
 
-ghost use Rattle.std.specs.Prelude.{◌≡◌, ◌*◌, ◌<◌, ◌^◌, IfOk, Some};
+ghost use Rattle.std.specs.Prelude.{◌≡◌, ◌+◌, ◌*◌, ◌≤◌, IfOk, Some};
 ghost use Rattle.site_text.specs.Numbers.{below};
 ghost use Rattle.site_text.specs.Sizes.{scale_of, size_of};
 ghost use Rattle.site_text.specs.declared.refusal.TextRefusal.TheVariants.{BadSize};
 
 use crate::numbers::read_number;
 use crate::refusal::TextRefusal;
+use base::FIELD_SIZE_MAX;
 
 fn scale_of(suffix: u8) -> Option<u64>
     ensures { result ≡ scale_of suffix }
@@ -21,10 +22,10 @@ fn scale_of(suffix: u8) -> Option<u64>
 }
 
 fn scaled(number: u64, scale: u64) -> Result<u64, TextRefusal>
-    ensures { result ≡ below BadSize (2 ^ 50) (Some (number * scale)) }
+    ensures { result ≡ below BadSize (FIELD_SIZE_MAX + 1) (Some (number * scale)) }
 {
     match number.checked_mul(scale) {
-        Some(value) if value < 1 << 50 => Ok(value),
+        Some(value) if value <= FIELD_SIZE_MAX => Ok(value),
         _ => Err(TextRefusal::Overflow),
     }
 }
@@ -34,7 +35,7 @@ fn scaled(number: u64, scale: u64) -> Result<u64, TextRefusal>
 #[tactic(auto, unfolding(crate::specs::Sizes::size_in_bytes, crate::specs::Numbers::number_in))]
 pub fn read_size(field: &[u8]) -> Result<u64, TextRefusal>
     ensures value { result ≡ size_of field.now }
-    ensures bound { IfOk result (λ size. size < 2 ^ 50) }
+    ensures bound { IfOk result (λ size. size ≤ FIELD_SIZE_MAX) }
 {
     let [front @ .., last] = field else {
         return Err(TextRefusal::BadSize);

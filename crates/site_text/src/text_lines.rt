@@ -9,7 +9,7 @@ ghost use Rattle.site_text.specs.Texts.{AreLines, AreJoinedLines};
 use crate::fields::{cut_at, cut_fields};
 use crate::line::Line;
 use crate::refusal::TextRefusal;
-use base::{Bytes, List};
+use base::{Bytes, COMMAND_FILE_MAX, List};
 use std::alloc::{AllocError, Global};
 
 fn first_byte(text: &[u8], byte: u8) -> Option<usize>
@@ -77,7 +77,7 @@ fn push_line(
 }
 
 fn joined_lines(alloc: Global, text: &[u8]) -> Result<List<Line>, TextRefusal>
-    requires { length text.now ≤ 65536 }
+    requires { length text.now ≤ COMMAND_FILE_MAX }
     ensures { AreJoinedLines text.now result }
 {
     let mut found = List::new(alloc);
@@ -107,7 +107,7 @@ fn joined_lines(alloc: Global, text: &[u8]) -> Result<List<Line>, TextRefusal>
 
 /// The lines of a text of at most 65,536 bytes. A text that is not UTF-8, or else ends in a line that goes on, has none.
 pub fn lines(alloc: Global, text: &[u8]) -> Result<List<Line>, TextRefusal>
-    requires { length text.now ≤ 65536 }
+    requires { length text.now ≤ COMMAND_FILE_MAX }
     ensures { AreLines text.now result }
 {
     if let Err(fault) = str::from_utf8(text) {

@@ -1,6 +1,7 @@
 -- The ranges of a step's fields, kind by kind. All else about a step is whether it is legal in a state.
 use Rattle.std.specs.Prelude.{ℕ, ◌<◌, ◌≤◌, ◌^◌, List, length}
 use Rattle.std.specs.List.{AllByRecursion}
+use Rattle.base.specs.declared.limits.TheConstants.{END_OF_TIME, INODE_MAX, MEMBER_COUNT_MAX, SECTION_COUNT_MAX}
 use Rattle.site_types.specs.declared.file.Run.{Run}
 use Rattle.site_types.specs.declared.file.Section.{Section}
 use Rattle.site_types.specs.declared.step.FileCopy.{FileCopy}
@@ -10,10 +11,10 @@ use Rattle.site_types.specs.declared.step.StepKind.{StepKind}
 use Rattle.site_types.specs.declared.step.StepKind.TheVariants.{Configured, Put, Accessed, Removed, Renamed, Attributed, CopyMade, Rearchive, Unarchived, Released, Wanted, Staged, StageFailed, Damaged, Recycling, Relabelled, Flagged}
 
 abbrev pub IsMoment : ℕ → Type 0
-IsMoment n = n < 2 ^ 40
+IsMoment n = n < END_OF_TIME
 
 abbrev pub IsInode : ℕ → Type 0
-IsInode n = (1 ≤ n) × (n ≤ 4294967294)
+IsInode n = (1 ≤ n) × (n ≤ INODE_MAX)
 
 abbrev pub IsCopy : ℕ → Type 0
 IsCopy n = (1 ≤ n) × (n ≤ 4)
@@ -36,7 +37,7 @@ IsSection s = IsIndex s.volume × IsNumber s.label × IsNumber s.place × IsNumb
 
 -- with 1 to 8 sections
 abbrev pub IsMember : Member → Type 0
-IsMember m = IsInode m.inode × IsNumber m.generation × (1 ≤ length m.sections) × (length m.sections ≤ 8) × AllByRecursion IsSection m.sections
+IsMember m = IsInode m.inode × IsNumber m.generation × (1 ≤ length m.sections) × (length m.sections ≤ SECTION_COUNT_MAX) × AllByRecursion IsSection m.sections
 
 abbrev pub IsEnd : VolumeEnd → Type 0
 IsEnd e = IsIndex e.volume × IsNumber e.used
@@ -56,7 +57,7 @@ Ranges (Accessed inode) = IsInode inode
 Ranges (Removed inode) = IsInode inode
 Ranges (Renamed r) = IsInode r.inode × IsText r.path
 Ranges (Attributed a) = IsInode a.inode × IsNumber a.partial
-Ranges (CopyMade m) = IsIndex m.set × IsCopy m.copy × IsText m.key × (length m.members ≤ 512) × AllByRecursion IsMember m.members × IsListOf IsEnd m.ends
+Ranges (CopyMade m) = IsIndex m.set × IsCopy m.copy × IsText m.key × (length m.members ≤ MEMBER_COUNT_MAX) × AllByRecursion IsMember m.members × IsListOf IsEnd m.ends
 Ranges (Rearchive c) = IsFileCopy c
 Ranges (Unarchived c) = IsFileCopy c
 Ranges (Released r) = IsInode r.inode × IsNumber r.cached

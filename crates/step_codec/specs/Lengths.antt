@@ -1,6 +1,7 @@
 -- How long the written form of a step is.
 use Rattle.std.specs.Prelude.{ℕ, ◌+◌, ◌*◌, ◌≤◌, List, length}
 use Rattle.std.specs.List.{sum_by, AllByRecursion}
+use Rattle.base.specs.declared.limits.TheConstants.{COMMAND_FILE_MAX, FILE_COUNT_MAX, MEMBER_COUNT_MAX, NAME_MAX, PATH_MAX, SECTION_COUNT_MAX, VOLUME_COUNT_MAX}
 use Rattle.site_types.specs.declared.file.SiteTexts.{SiteTexts}
 use Rattle.site_types.specs.declared.step.Member.{Member}
 use Rattle.site_types.specs.declared.step.Step.{Step}
@@ -47,10 +48,10 @@ step_length s = 9 + fields_length s.kind
 -- The limits of a site: 65,536 bytes of a command file, 1,024 of a path, 32 of a name, 2,048 of a key;
 -- 4,096 blocks of a file, 1,024 volumes, 512 members of 8 sections, 65,536 files.
 abbrev pub IsWithinLimits : StepKind → Type 0
-IsWithinLimits (Configured t) = (length t.site ≤ 65536) × (length t.archiver ≤ 65536) × (length t.stager ≤ 65536) × (length t.releaser ≤ 65536) × (length t.recycler ≤ 65536)
-IsWithinLimits (Put p) = (length p.path ≤ 1024) × (length p.owner ≤ 32) × (length p.group ≤ 32) × (length p.runs ≤ 4096)
-IsWithinLimits (Renamed r) = length r.path ≤ 1024
-IsWithinLimits (CopyMade m) = (length m.key ≤ 2048) × (length m.members ≤ 512) × AllByRecursion (λ m. length m.sections ≤ 8) m.members × (length m.ends ≤ 1024)
-IsWithinLimits (Wanted inodes) = length inodes ≤ 65536
+IsWithinLimits (Configured t) = (length t.site ≤ COMMAND_FILE_MAX) × (length t.archiver ≤ COMMAND_FILE_MAX) × (length t.stager ≤ COMMAND_FILE_MAX) × (length t.releaser ≤ COMMAND_FILE_MAX) × (length t.recycler ≤ COMMAND_FILE_MAX)
+IsWithinLimits (Put p) = (length p.path ≤ PATH_MAX) × (length p.owner ≤ NAME_MAX) × (length p.group ≤ NAME_MAX) × (length p.runs ≤ 4096)
+IsWithinLimits (Renamed r) = length r.path ≤ PATH_MAX
+IsWithinLimits (CopyMade m) = (length m.key ≤ 2048) × (length m.members ≤ MEMBER_COUNT_MAX) × AllByRecursion (λ m. length m.sections ≤ SECTION_COUNT_MAX) m.members × (length m.ends ≤ VOLUME_COUNT_MAX)
+IsWithinLimits (Wanted inodes) = length inodes ≤ FILE_COUNT_MAX
 IsWithinLimits (Staged s) = length s.runs ≤ 4096
 IsWithinLimits _ = Unit {0}

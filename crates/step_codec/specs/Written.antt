@@ -1,6 +1,7 @@
 -- The one written form of each step, and the ranges of its fields.
 use Rattle.std.specs.Prelude.{◌≡◌, ℕ, zero, suc, ◌-◌, ◌^◌, Bool, true, false, List, [], ◌∷◌, ◌++◌}
 use Rattle.std.specs.Int.{w32, w64}
+use Rattle.base.specs.declared.limits.TheConstants.{END_OF_TIME, INODE_MAX, MEMBER_COUNT_MAX, SECTION_COUNT_MAX}
 use Rattle.site_types.specs.declared.file.Run.{Run}
 use Rattle.site_types.specs.declared.file.Section.{Section}
 use Rattle.site_types.specs.declared.file.SiteTexts.{SiteTexts}
@@ -35,10 +36,10 @@ abbrev pub number : Form ℕ
 number = number_of w64 0 (2 ^ 64 - 1)
 
 abbrev pub moment : Form ℕ
-moment = number_of w64 0 (2 ^ 40 - 1)
+moment = number_of w64 0 (END_OF_TIME - 1)
 
 abbrev pub inode : Form ℕ
-inode = number_of w64 1 4294967294
+inode = number_of w64 1 INODE_MAX
 
 abbrev pub copy : Form ℕ
 copy = number_of w64 1 4
@@ -120,7 +121,7 @@ abbrev pub section : Form Section
 section = made section_of (λ s. (s.volume, (s.label, (s.place, s.length)))) (index & number & number & number)
 
 abbrev pub sections : Form (List Section)
-sections = list_of 1 8 section
+sections = list_of 1 SECTION_COUNT_MAX section
 
 abbrev pub member_of : ℕ × (ℕ × List Section) → Member
 member_of (i, (generation, places)) = record { inode = i; generation = generation; sections = places }
@@ -129,7 +130,7 @@ abbrev pub member : Form Member
 member = made member_of (λ m. (m.inode, (m.generation, m.sections))) (inode & number & sections)
 
 abbrev pub members : Form (List Member)
-members = list_of 0 512 member
+members = list_of 0 MEMBER_COUNT_MAX member
 
 abbrev pub end_of : ℕ × ℕ → VolumeEnd
 end_of (volume, used) = record { volume = volume; used = used }

@@ -9,7 +9,7 @@ ghost use Rattle.step_codec.specs.Written.{number, moment, inode, copy, index, b
 
 use crate::refusal::StepRefusal;
 use crate::unread::Unread;
-use base::Bytes;
+use base::{Bytes, END_OF_TIME, INODE_MAX};
 use std::alloc::AllocError;
 
 /// A field, or several that follow one another. A type that is written in one way only is its own;
@@ -81,7 +81,7 @@ impl Field for Moment {
     ghost form = { moment };
 
     fn read(bytes: &mut Unread) -> Result<u64, StepRefusal> {
-        bytes.u64_within(0, (1 << 40) - 1)
+        bytes.u64_within(0, END_OF_TIME - 1)
     }
 
     fn write(value: &u64, into: &mut Vec<u8>) -> Result<(), AllocError> {
@@ -98,7 +98,7 @@ impl Field for Inode {
     ghost form = { inode };
 
     fn read(bytes: &mut Unread) -> Result<u32, StepRefusal> {
-        let n = bytes.u64_within(1, 4_294_967_294)?;
+        let n = bytes.u64_within(1, INODE_MAX as u64)?;
         Ok(n as u32)
     }
 

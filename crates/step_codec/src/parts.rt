@@ -7,7 +7,7 @@ use crate::field::{Block, Field, Index, Inode, Number};
 use crate::list::{read_list, write_list};
 use crate::refusal::StepRefusal;
 use crate::unread::Unread;
-use base::{Bytes, List};
+use base::{Bytes, List, MEMBER_COUNT_MAX, SECTION_COUNT_MAX};
 use site_types::{Member, Run, Section, SiteTexts, VolumeEnd};
 use std::alloc::AllocError;
 
@@ -77,7 +77,7 @@ impl Field for Sections {
     ghost form = { sections };
 
     fn read(bytes: &mut Unread) -> Result<List<Section>, StepRefusal> {
-        read_list::<Section>(bytes, 1, 8)
+        read_list::<Section>(bytes, 1, SECTION_COUNT_MAX)
     }
 
     fn write(value: &List<Section>, into: &mut Vec<u8>) -> Result<(), AllocError> {
@@ -114,7 +114,7 @@ impl Field for Members {
     ghost form = { members };
 
     fn read(bytes: &mut Unread) -> Result<List<Member>, StepRefusal> {
-        read_list::<Member>(bytes, 0, 512)
+        read_list::<Member>(bytes, 0, MEMBER_COUNT_MAX)
     }
 
     fn write(value: &List<Member>, into: &mut Vec<u8>) -> Result<(), AllocError> {

@@ -6,6 +6,8 @@ ghost use Rattle.step_codec.specs.Lengths.{step_length, IsWithinLimits};
 ghost use Rattle.site_types.specs.Ranges.{IsMoment, Ranges};
 ghost use Rattle.step_codec.specs.Written.{written, InRange};
 
+use base::PAYLOAD_MAX;
+
 /// No written form begins another: what is written one behind the other is read again, whatever
 /// follows.
 pub fn one_form()
@@ -16,7 +18,7 @@ pub fn one_form()
 pub fn written_length()
     ensures exact { (s : Step) → length (written s) ≡ step_length s }
     // Within the limits of a site it fits in a record of the journal.
-    ensures short { (s : Step) → IsWithinLimits s.kind → length (written s) ≤ 1048576 }
+    ensures short { (s : Step) → IsWithinLimits s.kind → length (written s) ≤ PAYLOAD_MAX }
 {}
 
 /// A step is in range exactly where its moment and the fields of its kind are.

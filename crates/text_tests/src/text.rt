@@ -1,6 +1,6 @@
 //! What no clause says: that the calls succeed, and vectors made by hand from the format.
 
-use base::{Bytes, List};
+use base::{Bytes, COMMAND_FILE_MAX, List};
 use site_text::{
     CommandFile, ConfError, ConfFault, ConfRefusal, Fields, Line, LineError, OptionTable,
     TableOption, TextRefusal, cut_fields, lines, no_option, number_value, read_age, read_file,
@@ -46,7 +46,7 @@ const LINES: [(&[u8], &[u8]); 10] = [
 #[test]
 fn cuts_lines(rt: HostRuntime) -> Result<(), Fail> {
     for (text, want) in LINES {
-        if text.len() <= 65536 {
+        if text.len() <= COMMAND_FILE_MAX {
             let found = lines(rt.alloc(), text)?;
             let shown = shown(rt.alloc(), found.as_slice())?;
             assert_eq!(rt; shown.as_slice(), want);
@@ -67,7 +67,7 @@ const NO_TEXTS: [(&[u8], TextRefusal); 5] = [
 #[test]
 fn refuses_texts(rt: HostRuntime) {
     for (text, want) in NO_TEXTS {
-        if text.len() <= 65536 {
+        if text.len() <= COMMAND_FILE_MAX {
             assert_eq!(rt; lines(rt.alloc(), text).err(), Some(want));
         }
     }
@@ -294,7 +294,7 @@ const FILES: [(&[u8], Result<Option<u32>, (u32, ConfFault)>); 8] = [
 #[test]
 fn reads_files(rt: HostRuntime) {
     for (text, want) in FILES {
-        if text.len() <= 65536 {
+        if text.len() <= COMMAND_FILE_MAX {
             let want = want.map_err(|at| ConfError::Refused(ConfRefusal {
                 line: at.0,
                 fault: at.1,

@@ -2,7 +2,7 @@
 
 use super::shown::shown_in;
 use archiver_cmd::{ArchiverConf, Owner, Reserve, Sort, SortKey, read_archiver};
-use base::Bytes;
+use base::{Bytes, COMMAND_FILE_MAX};
 use std::alloc::{AllocError, Global};
 use std::test::Fail;
 
@@ -35,7 +35,7 @@ const TEXT_SAYS: &[u8] =
     |v rushes.1 li:^DAY@25 li:^Z@34|v finals.1 li:^FIN@26|v allsets.2 li:X@32|v allsets lt:Y@33|V";
 
 fn conf_of(alloc: Global, text: &[u8]) -> Result<ArchiverConf, Fail> {
-    if text.len() > 65536 {
+    if text.len() > COMMAND_FILE_MAX {
         return Err("a long text".into());
     }
     Ok(read_archiver(alloc, text, b"film1")?)

@@ -3,7 +3,7 @@
 use archiver_cmd::{
     ArchiverConf, Assignment, CopyConf, CopyName, ParamsLine, SetConf, VsnsGroup, read_archiver,
 };
-use base::Bytes;
+use base::{Bytes, COMMAND_FILE_MAX};
 use std::alloc::{AllocError, Global};
 use std::test::Fail;
 
@@ -140,7 +140,7 @@ fn shown(alloc: Global, conf: &ArchiverConf) -> Result<Bytes, AllocError> {
 
 /// What a text says, for a site with this file system.
 pub fn shown_in(alloc: Global, text: &[u8], fs: &[u8]) -> Result<Bytes, Fail> {
-    if text.len() > 65536 {
+    if text.len() > COMMAND_FILE_MAX {
         return Err("a long text".into());
     }
     Ok(shown(alloc, &read_archiver(alloc, text, fs)?)?)

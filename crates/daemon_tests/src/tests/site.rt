@@ -1,7 +1,7 @@
 //! site.conf.
 
 use super::{Refused, Said, push_number, refused};
-use base::Bytes;
+use base::{Bytes, COMMAND_FILE_MAX};
 use daemon_cmds::{Library, SiteConf, Volume, read_site};
 use site_text::{ConfError, ConfFault};
 use std::alloc::{AllocError, Global};
@@ -50,7 +50,7 @@ fn shown(alloc: Global, site: &SiteConf) -> Result<Bytes, AllocError> {
 
 /// What the reader says of a text, or why it refuses it.
 fn said(alloc: Global, text: &[u8]) -> Result<Bytes, ConfError> {
-    if text.len() > 65536 {
+    if text.len() > COMMAND_FILE_MAX {
         return Err(ConfError::NoMemory);
     }
     Ok(shown(alloc, &read_site(alloc, text)?)?)

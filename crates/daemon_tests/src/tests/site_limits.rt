@@ -1,7 +1,7 @@
 //! How many libraries and volumes a site.conf may have.
 
 use super::{push_number, refused};
-use base::Bytes;
+use base::{Bytes, COMMAND_FILE_MAX};
 use daemon_cmds::read_site;
 use site_text::{ConfError, ConfFault};
 use std::alloc::{AllocError, Global};
@@ -25,7 +25,7 @@ fn numbered(
 
 /// How many libraries and volumes a text says.
 fn counts(alloc: Global, text: &[u8]) -> Result<(usize, usize), ConfError> {
-    if text.len() > 65536 {
+    if text.len() > COMMAND_FILE_MAX {
         return Err(ConfError::NoMemory);
     }
     read_site(alloc, text).map(|site| (site.libraries.len(), site.volumes.len()))

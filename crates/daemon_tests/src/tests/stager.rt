@@ -1,7 +1,7 @@
 //! stager.cmd.
 
 use super::{Refused, SITE, Said, push_number, refused};
-use base::Bytes;
+use base::{Bytes, COMMAND_FILE_MAX};
 use daemon_cmds::{StagerConf, read_site, read_stager};
 use site_text::{ConfError, ConfFault};
 use std::alloc::{AllocError, Global};
@@ -28,7 +28,7 @@ fn shown(alloc: Global, stager: &StagerConf) -> Result<Bytes, AllocError> {
 
 /// What the reader says of a text, or why it refuses it.
 fn said(alloc: Global, site: &[u8], text: &[u8]) -> Result<Bytes, ConfError> {
-    if site.len() > 65536 || text.len() > 65536 {
+    if site.len() > COMMAND_FILE_MAX || text.len() > COMMAND_FILE_MAX {
         return Err(ConfError::NoMemory);
     }
     let site = read_site(alloc, site)?;

@@ -63,7 +63,7 @@ fn text_under<'a>(texts: &'a [NamedText], name: &[u8]) -> Option<&'a [u8]>
 
 // A copy of a text up to its 65,537th byte.
 fn copy_front(alloc: Global, text: &[u8]) -> Result<Bytes, FolderFault>
-    ensures { MatchResult result (λ b. b ≡ take 65537 text.now) (λ fault. fault ≡ FolderFault.NoMemory) }
+    ensures { MatchResult result (λ b. b ≡ take LONGEST_READ text.now) (λ fault. fault ≡ FolderFault.NoMemory) }
 {
     let length = LONGEST_READ.min(text.len());
     match Bytes::from_slice(alloc, &text[..length]) {
