@@ -148,35 +148,35 @@ picked_is_image pick start past a = by_test (pick == 0) (pick == 1)
     by_test false false = filled_is_image 165 start past a
 
 -- a store that begins with what is left
-module _ (m : MemoryBank) (pick moment count index : ℕ) (items before calls left result : List Call) (began_with : items ≡ m.before)
-    (copied : before ≡ take index items) (whole : length items ≤ index) (recorded : calls ≡ m.calls) (cut : count ≡ min (length m.calls) moment)
+module _ (m : MemoryBank) (pick instant count index : ℕ) (items before calls left result : List Call) (began_with : items ≡ m.before)
+    (copied : before ≡ take index items) (whole : length items ≤ index) (recorded : calls ≡ m.calls) (cut : count ≡ min (length m.calls) instant)
     (added : (start : Image) (a k : ℕ) → content_of start (reverse left) a k ≡ picked pick (content_of start (reverse before)) (reverse (take count calls)) a k)
     (kept : result ≡ left) where
   same_before : before ≡ m.before
   same_before = copied ∙ take_all index items whole ∙ began_with
 
-  same_calls : take count calls ≡ take moment m.calls
-  same_calls = ap (λ (l : List Call). take count l) recorded ∙ elim (cases_lt (length m.calls) moment) [
-    | inl lt ↦ take_all count m.calls (omega arith) ∙ sym (take_all moment m.calls (omega arith))
-    | inr le ↦ ap (λ (n : ℕ). take n m.calls) (let e : count ≡ moment = omega arith in e)
+  same_calls : take count calls ≡ take instant m.calls
+  same_calls = ap (λ (l : List Call). take count l) recorded ∙ elim (cases_lt (length m.calls) instant) [
+    | inl lt ↦ take_all count m.calls (omega arith) ∙ sym (take_all instant m.calls (omega arith))
+    | inr le ↦ ap (λ (n : ℕ). take n m.calls) (let e : count ≡ instant = omega arith in e)
   ]
 
-  pub left_as_picked : (a k : ℕ) → content_of zeros (reverse result) a k ≡ picked pick (began m) (past_at m moment) a k
+  pub left_as_picked : (a k : ℕ) → content_of zeros (reverse result) a k ≡ picked pick (began m) (past_at m instant) a k
   left_as_picked a k =
       ap (λ (l : List Call). content_of zeros (reverse l) a k) kept ∙ added zeros a k
       ∙ ap (λ (l : List Call). picked pick (content_of zeros (reverse l)) (reverse (take count calls)) a k) same_before
       ∙ ap (λ (l : List Call). picked pick (began m) (reverse l) a k) same_calls
 
-  pub left_is_image : IsImageAt (began m) (past_at m moment) (content_of zeros (reverse result))
-  left_is_image a = leaves_same (began m) (past_at m moment) a _ _ (λ k. sym (left_as_picked a k)) (picked_is_image pick (began m) (past_at m moment) a)
+  pub left_is_image : IsImageAt (began m) (past_at m instant) (content_of zeros (reverse result))
+  left_is_image a = leaves_same (began m) (past_at m instant) a _ _ (λ k. sym (left_as_picked a k)) (picked_is_image pick (began m) (past_at m instant) a)
 
--- an image at an earlier moment
+-- an image at an earlier instant
 left_later : (start : Image) (newer past : List Call) (t : ℕ) (c : Image) → t ≤ length past → IsImageAt start past c → LeftSince start (newer ++ past) t c
 left_later start [] past t c le image = counts_now start past t c le image
 left_later start (call ∷ newer) past t c le image = inr (left_later start newer past t c le image)
 
-pub left_since : (m : MemoryBank) (moment t : ℕ) (c : Image) → t ≤ length (past_at m moment) → IsImageAt (began m) (past_at m moment) c → LeftSince (began m) (past_of m) t c
-left_since m moment t c le image =
+pub left_since : (m : MemoryBank) (instant t : ℕ) (c : Image) → t ≤ length (past_at m instant) → IsImageAt (began m) (past_at m instant) c → LeftSince (began m) (past_of m) t c
+left_since m instant t c le image =
     subst (λ (l : List Call). LeftSince (began m) l t c)
-    (sym (reverse-append (take moment m.calls) (drop moment m.calls)) ∙ ap (λ (l : List Call). reverse l) (take-append-drop moment m.calls))
-    (left_later (began m) (reverse (drop moment m.calls)) (past_at m moment) t c le image)
+    (sym (reverse-append (take instant m.calls) (drop instant m.calls)) ∙ ap (λ (l : List Call). reverse l) (take-append-drop instant m.calls))
+    (left_later (began m) (reverse (drop instant m.calls)) (past_at m instant) t c le image)

@@ -3,7 +3,7 @@ use Rattle.std.proofs.Common.{◌≡◌, ◌≢◌, ◌⊎◌, inr, ℕ, ◌+◌
 use Rattle.bank.specs.Content.{Content, Image}
 use Rattle.bank.specs.View.{View, IsImage, IsSound, Unchanged, Wrote, IsTornImage}
 use Rattle.bank.specs.Inside.{SameBeside, IsTornInside, WroteInside}
-use Rattle.bank.proofs.Moments.{weakened, joined}
+use Rattle.bank.proofs.Instants.{weakened, joined}
 use Rattle.bank.proofs.Writes.{wrote_nothing}
 
 -- a byte that is not chosen lies outside the range
@@ -27,7 +27,7 @@ module _ (area : ℕ) (inside : ℕ → Bool) where
     other_content = h.other_content;
     images = λ c left. let d = h.images c left in (d.0, d.1, λ k out. d.2 k (range k out));
     other_images = h.other_images;
-    moments = weakened old new (IsTornImage old area p n) (IsTornInside old area inside) h.moments
+    meanwhile = weakened old new (IsTornImage old area p n) (IsTornInside old area inside) h.meanwhile
         (λ c t. record { torn = (t.torn.0, t.torn.1, λ k out. t.torn.2 k (range k out)); others = t.others });
   }
 
@@ -39,7 +39,7 @@ module _ (area : ℕ) (inside : ℕ → Bool) where
         other_content = w.other_content;
         images = λ c left. let d = w.images c left in (d.0, d.1, λ k out. d.2 k (inr (omega arith)));
         other_images = w.other_images;
-        moments = weakened old new (IsTornImage old area 0 0) (IsTornInside old area inside) w.moments
+        meanwhile = weakened old new (IsTornImage old area 0 0) (IsTornInside old area inside) w.meanwhile
             (λ c t. record { torn = (t.torn.0, t.torn.1, λ k out. t.torn.2 k (inr (omega arith))); others = t.others });
       }
 
@@ -53,7 +53,7 @@ module _ (area : ℕ) (inside : ℕ → Bool) where
         let e = first.images d.0 d.1 in
         (e.0, e.1, λ k out. d.2 k out ∙ e.2 k out);
     other_images = λ a c ne left. first.other_images a c ne (second.other_images a c ne left);
-    moments = joined old mid new (IsTornInside old area inside) first.moments
-        (weakened mid new (IsTornInside mid area inside) (IsTornInside old area inside) second.moments
+    meanwhile = joined old mid new (IsTornInside old area inside) first.meanwhile
+        (weakened mid new (IsTornInside mid area inside) (IsTornInside old area inside) second.meanwhile
         (λ c h. torn_inside old mid c first.images first.other_images h));
   }

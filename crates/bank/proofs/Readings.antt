@@ -2,7 +2,7 @@
 use Rattle.std.proofs.Common.{ℕ, List, refl, sym, ◌∙◌}
 use Rattle.bank.specs.Content.{Image, Stands}
 use Rattle.bank.specs.View.{View, IsImage, IsSound, Unchanged, OnlyContent, LeavesOnly, IsTornImage, Wrote, OnlyRead}
-use Rattle.bank.proofs.Moments.{started, weakened, joined, one_call}
+use Rattle.bank.proofs.Instants.{started, weakened, joined, one_call}
 use Rattle.bank.proofs.Spans.{Stands-same}
 use Rattle.bank.proofs.Writes.{image_is_torn, wrote_then}
 
@@ -11,7 +11,7 @@ pub nothing_read : (v : View) → IsSound v → OnlyRead v v
 nothing_read v sound = record {
   content = λ a k. refl;
   images = λ a c left. left;
-  moments = started v (IsImage v) sound (λ c image. image);
+  meanwhile = started v (IsImage v) sound (λ c image. image);
 }
 
 -- one call
@@ -19,7 +19,7 @@ pub only_read : (old new : View) → IsSound old → IsSound new → Unchanged o
 only_read old new sound sound_then h = record {
   content = h.content;
   images = h.images;
-  moments = one_call old new (IsImage old) sound sound_then h.time (λ c image. image) before;
+  meanwhile = one_call old new (IsImage old) sound sound_then h.time (λ c image. image) before;
 }
   where
     before : (c : Image) → IsImage new c → IsImage old c
@@ -34,13 +34,13 @@ pub read_then_read : (old mid new : View) → OnlyRead old mid → OnlyRead mid 
 read_then_read old mid new first second = record {
   content = λ a k. first.content a k ∙ second.content a k;
   images = λ a c left. first.images a c (second.images a c left);
-  moments = joined old mid new (IsImage old) first.moments
-      (weakened mid new (IsImage mid) (IsImage old) second.moments (λ c image. was_image old mid c first image));
+  meanwhile = joined old mid new (IsImage old) first.meanwhile
+      (weakened mid new (IsImage mid) (IsImage old) second.meanwhile (λ c image. was_image old mid c first image));
 }
 
 -- what each image has already, each image keeps
 pub read_leaves : (old new : View) (P : Image → Type 0) → OnlyRead old new → ((c : Image) → IsImage old c → P c) → LeavesOnly old new P
-read_leaves old new P h here = weakened old new (IsImage old) P h.moments here
+read_leaves old new P h here = weakened old new (IsImage old) P h.meanwhile here
 
 pub read_then : (old mid new : View) (P : Image → Type 0) → OnlyRead old mid → ((c : Image) → IsImage old c → P c) → LeavesOnly mid new P → LeavesOnly old new P
 read_then old mid new P first here second = joined old mid new P (read_leaves old mid P first here) second
@@ -63,7 +63,7 @@ module _ (area p n : ℕ) where
     other_content = λ a ne. h.content a;
     images = λ c left. (c, h.images area c left, λ k out. refl);
     other_images = λ a c ne left. h.images a c left;
-    moments = weakened old new (IsImage old) (IsTornImage old area p n) h.moments (λ c image. image_is_torn area p n old c image);
+    meanwhile = weakened old new (IsImage old) (IsTornImage old area p n) h.meanwhile (λ c image. image_is_torn area p n old c image);
   }
 
   pub read_then_wrote : (old mid new : View) → OnlyRead old mid → Wrote area p n mid new → Wrote area p n old new

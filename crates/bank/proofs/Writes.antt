@@ -2,7 +2,7 @@
 use Rattle.std.proofs.Common.{◌≢◌, ◌⊎◌, inl, inr, ℕ, ◌+◌, ◌<◌, ◌≤◌, refl, sym, ◌∙◌, arith}
 use Rattle.bank.specs.Content.{Content, Image, SameOutside}
 use Rattle.bank.specs.View.{View, IsImage, IsSound, Unchanged, Touches, Wrote, IsTornImage}
-use Rattle.bank.proofs.Moments.{weakened, joined, one_call}
+use Rattle.bank.proofs.Instants.{weakened, joined, one_call}
 
 module _ (area p n : ℕ) where
   pub image_is_torn : (v : View) (c : Image) → IsImage v c → IsTornImage v area p n c
@@ -21,7 +21,7 @@ module _ (area p n : ℕ) where
     other_content = h.other_content;
     images = h.images;
     other_images = h.other_images;
-    moments = one_call old new (IsTornImage old area p n) sound sound_then h.time (image_is_torn old) now;
+    meanwhile = one_call old new (IsTornImage old area p n) sound sound_then h.time (image_is_torn old) now;
   }
     where
       now : (c : Image) → IsImage new c → IsTornImage old area p n c
@@ -46,8 +46,8 @@ module _ (area p n : ℕ) where
         let e = first.images d.0 d.1 in
         (e.0, e.1, λ k out. d.2 k out ∙ e.2 k out);
     other_images = λ a c ne left. first.other_images a c ne (second.other_images a c ne left);
-    moments = joined old mid new (IsTornImage old area p n) first.moments
-        (weakened mid new (IsTornImage mid area p n) (IsTornImage old area p n) second.moments (λ c h. torn_image old mid c first.images first.other_images h));
+    meanwhile = joined old mid new (IsTornImage old area p n) first.meanwhile
+        (weakened mid new (IsTornImage mid area p n) (IsTornImage old area p n) second.meanwhile (λ c h. torn_image old mid c first.images first.other_images h));
   }
 
 -- a wider range
@@ -57,7 +57,7 @@ widened area p n q m old new low high h = record {
   other_content = h.other_content;
   images = λ c left. let d = h.images c left in (d.0, d.1, λ k out. d.2 k (outside k out));
   other_images = h.other_images;
-  moments = weakened old new (IsTornImage old area p n) (IsTornImage old area q m) h.moments
+  meanwhile = weakened old new (IsTornImage old area p n) (IsTornImage old area q m) h.meanwhile
       (λ c t. record { torn = (t.torn.0, t.torn.1, λ k out. t.torn.2 k (outside k out)); others = t.others });
 }
   where

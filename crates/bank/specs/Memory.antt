@@ -20,9 +20,9 @@ began m = content_of zeros (reverse m.before)
 abbrev pub past_of : MemoryBank → List Call
 past_of m = reverse m.calls
 
--- those up to a moment
+-- those up to a instant
 abbrev pub past_at : MemoryBank → ℕ → List Call
-past_at m moment = reverse (take moment m.calls)
+past_at m instant = reverse (take instant m.calls)
 
 -- no call was made since it began, and these are to fail
 pub record IsAnew (m : MemoryBank) (listed : List FailAt) : Type 0 where

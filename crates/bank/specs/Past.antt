@@ -48,7 +48,7 @@ Leaves start (call ∷ past) a c =
 abbrev pub IsImageAt : Image → List Call → Image → Type 0
 IsImageAt start past c = (a : ℕ) → Leaves start past a (c a)
 
--- an image at some moment from t on; the moment is the number of the calls
+-- an image at some instant from t on; the instant is the number of the calls
 abbrev pub LeftSince : Image → List Call → ℕ → Image → Type 0
 LeftSince start [] t c = (t ≤ 0) × IsImageAt start [] c
 LeftSince start (call ∷ past) t c = ((t ≤ length (call ∷ past)) × IsImageAt start (call ∷ past) c) ⊎ LeftSince start past t c
@@ -57,6 +57,6 @@ abbrev pub view_of : Image → List Call → View
 view_of start past = record {
   content = content_of start past;
   may_leave = Leaves start past;
-  moment = length past;
+  instant = length past;
   left_since = LeftSince start past;
 }

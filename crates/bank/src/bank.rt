@@ -46,7 +46,7 @@ pub trait Bank: Drop {
         requires { place + length bytes.now < 2 ^ 63 }
         ensures written { IsTrue tells → OnOk result (Stands ((view self.new).content area) place bytes.now) }
         ensures torn { IsTrue tells → Touches area place (length bytes.now) (view self.old) (view self.new) }
-        ensures later { IsTrue tells → OnOk result ((view self.old).moment < (view self.new).moment) }
+        ensures later { IsTrue tells → OnOk result ((view self.old).instant < (view self.new).instant) }
         ensures cause { HasCause (faults self.old) (faults self.new) result }
         ensures journal_cause { HasJournalCause area (journal_faults self.old) (journal_faults self.new) result }
         ensures area { OnErr result (last_fault self.new ≡ area) }
@@ -56,15 +56,15 @@ pub trait Bank: Drop {
     fn sync(&mut self, area: u32) -> Result<(), BankFailed>
         ensures durable { IsTrue tells → OnOk result (OnlyContent area (view self.new)) }
         ensures unchanged { IsTrue tells → Unchanged (view self.old) (view self.new) }
-        ensures later { IsTrue tells → OnOk result ((view self.old).moment < (view self.new).moment) }
+        ensures later { IsTrue tells → OnOk result ((view self.old).instant < (view self.new).instant) }
         ensures cause { HasCause (faults self.old) (faults self.new) result }
         ensures journal_cause { HasJournalCause area (journal_faults self.old) (journal_faults self.new) result }
         ensures area { OnErr result (last_fault self.new ≡ area) }
         ensures last { OnOk result (last_fault self.new ≡ last_fault self.old) };
 
-    /// The moment. It never goes back.
-    fn moment(&self) -> u64
-        ensures { IsTrue tells → result ≡ (view self.now).moment };
+    /// The instant. It never goes back.
+    fn instant(&self) -> u64
+        ensures { IsTrue tells → result ≡ (view self.now).instant };
 
     /// What holds of each view.
     ghost sound: { (b : Self) → IsTrue tells → IsSound (view b) };

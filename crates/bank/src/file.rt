@@ -129,7 +129,7 @@ impl<R: Files<File = File> + Drop> Bank for FileBank<R> {
         self.counted(area, answer)
     }
 
-    fn moment(&self) -> u64 {
+    fn instant(&self) -> u64 {
         0
     }
 }

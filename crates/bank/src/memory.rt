@@ -15,7 +15,7 @@ use std::alloc::{AllocError, Global};
 
 /// A store in memory. It keeps a record of its calls, and fails those of a list; one that fails changes nothing.
 /// A call that is refused for want of memory counts as a fault, and is not in the record.
-/// The moment is the number of recorded calls.
+/// The instant is the number of recorded calls.
 #[derive(Drop)]
 pub struct MemoryBank {
     alloc: Global,
@@ -92,20 +92,20 @@ impl MemoryBank {
         self.calls.as_slice()
     }
 
-    /// The store after a crash at a moment, or at the last call's if it comes earlier: one of the images that may be
+    /// The store after a crash at a instant, or at the last call's if it comes earlier: one of the images that may be
     /// left then. Pick 0 is without each write that was not synced, 1 with all of them, any other with the byte 0xA5
     /// all over the range of each. Its calls start anew, and none of them is to fail.
-    pub fn crashed(&self, moment: u64, pick: u8) -> Result<Self, AllocError>
-        ensures image { IfOk result (λ m. IsImageAt (began self.now) (past_at self.now moment) (began m)) }
-        ensures left { IfOk result (λ m. (t : ℕ) → t ≤ length (past_at self.now moment) → LeftSince (began self.now) (past_of self.now) t (began m)) }
-        ensures picked { IfOk result (λ m. (a k : ℕ) → began m a k ≡ picked pick (began self.now) (past_at self.now moment) a k) }
+    pub fn crashed(&self, instant: u64, pick: u8) -> Result<Self, AllocError>
+        ensures image { IfOk result (λ m. IsImageAt (began self.now) (past_at self.now instant) (began m)) }
+        ensures left { IfOk result (λ m. (t : ℕ) → t ≤ length (past_at self.now instant) → LeftSince (began self.now) (past_of self.now) t (began m)) }
+        ensures picked { IfOk result (λ m. (a k : ℕ) → began m a k ≡ picked pick (began self.now) (past_at self.now instant) a k) }
         ensures anew { IfOk result (λ m. IsAnew m []) }
         // It reads as that image, and a crash leaves what it reads.
         ensures content { IfOk result (λ m. (view_of (began m) (past_of m)).content ≡ began m) }
         ensures only { IfOk result (λ m. (area : ℕ) → OnlyContent area (view_of (began m) (past_of m))) }
     {
         let alloc = self.alloc;
-        let count = self.calls.len().min(moment as usize);
+        let count = self.calls.len().min(instant as usize);
         let mut before = Vec::with_capacity(alloc, self.before.len())?;
         for call in self.before.as_slice() {
             before.push(call.copy()?)?;
@@ -235,7 +235,7 @@ impl Bank for MemoryBank {
         self.note(BankCall::Sync, area, 0, &[])
     }
 
-    fn moment(&self) -> u64
+    fn instant(&self) -> u64
         ensures { result ≡ length (past_of self.now) }
     {
         self.calls.len() as u64

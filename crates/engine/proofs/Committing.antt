@@ -3,7 +3,7 @@ use Rattle.std.proofs.Common.{◌≡◌, ◌⊎◌, inl, inr, ⊎_elim, ℕ, ◌
 use Rattle.std.specs.Prelude.{IsTrue}
 use Rattle.bank.specs.Content.{Image}
 use Rattle.bank.specs.View.{View, IsImage, IsSound, LeavesOnly, Wrote}
-use Rattle.bank.proofs.Moments.{weakened}
+use Rattle.bank.proofs.Instants.{weakened}
 use Rattle.journal.specs.Records.{AllHold, IsBeforeOrAfter, end_of}
 use Rattle.site_history.specs.Terms.{Terms}
 use Rattle.site_history.specs.Site.{Site}
@@ -16,10 +16,10 @@ use Rattle.site_history.proofs.HistoryLaws.{history-push}
 use Rattle.site_history.proofs.JournalLaws.{end_of-history}
 use Rattle.site_history.proofs.ImageLaws.{image_reads}
 use Rattle.site_history.proofs.Reopenings.{pinned_by_world}
-use Rattle.site_history.proofs.Commits.{step_ready, commit_moments, commit_pinned, commit_faulted}
+use Rattle.site_history.proofs.Commits.{step_ready, commit_meanwhile, commit_pinned, commit_faulted}
 use Rattle.site_history.proofs.WorldLaws.{site_from_first, history_from_first, site_made, moment_made, made_stands as made_on_base, steps_made, made_from_first}
 use Rattle.site_history.proofs.Between.{between_whole, between_last}
-use Rattle.engine.specs.declared.kept.Engine.{Engine}
+use Rattle.engine.specs.declared.engine.Engine.{Engine}
 use Rattle.site_state.specs.Keeps.{Keeps}
 use Rattle.engine.specs.StandsFor.{IsInStep, StandsFor, Moves}
 use Rattle.engine.specs.Ready.{IsReady}
@@ -71,20 +71,20 @@ module _ (terms : Terms) {B P : Type 0} (told : Bool) (view : B → View) (old n
           (subst (λ (s : Site). StandInAll (view old.bank) (step_extents made s)) site_now (ready.stored t))
 
   module _ (clock : new.clock ≡ old.clock) (size : new.journal.size ≡ old.journal.size) (sound : IsTrue told → IsSound (view old.bank)) (sound_then : IsTrue told → IsSound (view new.bank))
-      (moments : IsTrue told → LeavesOnly (view old.bank) (view new.bank) (IsBeforeOrAfter (view old.bank) (written_forms w.history) old.payload.items old.journal.size)) where
-    moments_at : IsTrue told → LeavesOnly (view old.bank) (view new.bank) (IsBeforeOrAfter (view old.bank) (written_forms w.history) old.payload.items terms.size)
-    moments_at t = subst (λ (n : ℕ). LeavesOnly (view old.bank) (view new.bank) (IsBeforeOrAfter (view old.bank) (written_forms w.history) old.payload.items n)) ready.stands.size (moments t)
+      (meanwhile : IsTrue told → LeavesOnly (view old.bank) (view new.bank) (IsBeforeOrAfter (view old.bank) (written_forms w.history) old.payload.items old.journal.size)) where
+    meanwhile_at : IsTrue told → LeavesOnly (view old.bank) (view new.bank) (IsBeforeOrAfter (view old.bank) (written_forms w.history) old.payload.items terms.size)
+    meanwhile_at t = subst (λ (n : ℕ). LeavesOnly (view old.bank) (view new.bank) (IsBeforeOrAfter (view old.bank) (written_forms w.history) old.payload.items n)) ready.stands.size (meanwhile t)
 
     either_way : IsTrue told → LeavesOnly (view old.bank) (view new.bank) (λ c. Reads terms c w.history ⊎ Reads terms c (w.history ++ made ∷ []))
-    either_way t = commit_moments terms (view old.bank) (view new.bank) w.history made (history_now t) (legal_now t) ready.bytes (pinned_now t (sound t)) (bytes_then t (sound t))
-        old.payload.items ready.form (moments_at t)
+    either_way t = commit_meanwhile terms (view old.bank) (view new.bank) w.history made (history_now t) (legal_now t) ready.bytes (pinned_now t (sound t)) (bytes_then t (sound t))
+        old.payload.items ready.form (meanwhile_at t)
 
     -- the journal failed: the step is owed
     module _ (steps : new.steps ≡ old.steps) (due : new.due ≡ true) where
       owing_images : IsTrue told → (c : Image) → IsImage (view new.bank) c → ReadsAs terms (owing_in (Some made) w) c
       owing_images t c image = (⊎_elim (λ was. inl was) (λ is. inr (made, refl, is))
           (commit_faulted terms (view old.bank) (view new.bank) w.history made (history_now t) (legal_now t) ready.bytes (pinned_now t (sound t)) (bytes_then t (sound t))
-          old.payload.items ready.form (sound_then t) (moments_at t) c image))
+          old.payload.items ready.form (sound_then t) (meanwhile_at t) c image))
 
       owed_in_time : (owed : HistoryStep) → (owing_in (Some made) w).owed ≡ Some owed → owed.step.moment ≤ w.clock
       owed_in_time owed e =
@@ -111,7 +111,7 @@ module _ (terms : Terms) {B P : Type 0} (told : Bool) (view : B → View) (old n
       pub owed_moves : Moves terms told view old new w (owing_in (Some made) w)
       owed_moves = record {
         stands = owed_stands;
-        moments = λ t. weakened (view old.bank) (view new.bank) (λ c. Reads terms c w.history ⊎ Reads terms c (w.history ++ made ∷ []))
+        meanwhile = λ t. weakened (view old.bank) (view new.bank) (λ c. Reads terms c w.history ⊎ Reads terms c (w.history ++ made ∷ []))
             (ReadsBetween terms w (owing_in (Some made) w)) (either_way t)
             (λ c reads. ⊎_elim (λ was. inl (inl was)) (λ is. between_whole terms w (owing_in (Some made) w) c (made ∷ [], refl) is) reads);
       }
@@ -152,7 +152,7 @@ module _ (terms : Terms) {B P : Type 0} (told : Bool) (view : B → View) (old n
       pub made_moves : Moves terms told view old new w (made_in (Some made) w)
       made_moves = record {
         stands = made_stands;
-        moments = λ t. weakened (view old.bank) (view new.bank) (λ c. Reads terms c w.history ⊎ Reads terms c (w.history ++ made ∷ []))
+        meanwhile = λ t. weakened (view old.bank) (view new.bank) (λ c. Reads terms c w.history ⊎ Reads terms c (w.history ++ made ∷ []))
             (ReadsBetween terms w (made_in (Some made) w)) (either_way t)
             (λ c reads. ⊎_elim (λ was. inl (inl was)) (λ is. between_last terms w (made_in (Some made) w) c (made ∷ [], refl) is) reads);
       }

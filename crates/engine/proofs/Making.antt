@@ -5,7 +5,7 @@ use Rattle.std.specs.Prelude.{IsTrue}
 use Rattle.bank.specs.Content.{Image}
 use Rattle.bank.specs.View.{View, IsImage, IsSound, LeavesOnly}
 use Rattle.bank.specs.Inside.{WroteInside}
-use Rattle.bank.proofs.Moments.{weakened}
+use Rattle.bank.proofs.Instants.{weakened}
 use Rattle.site_events.specs.declared.event.Event.{Event}
 use Rattle.site_events.specs.declared.reply.Reply.{Reply}
 use Rattle.step_codec.specs.Written.{written}
@@ -33,7 +33,7 @@ use Rattle.site_state.specs.Keeps.{Keeps}
 use Rattle.decisions.specs.declared.plan.Plan.TheVariants.{Make}
 use Rattle.decisions.specs.declared.plan.Work.{Work}
 use Rattle.decisions.specs.Plans.{stored_bytes, IsPlanOf}
-use Rattle.engine.specs.declared.kept.Engine.{Engine}
+use Rattle.engine.specs.declared.engine.Engine.{Engine}
 use Rattle.engine.specs.StandsFor.{StandsFor, Moves}
 use Rattle.engine.specs.Ready.{IsReady}
 use Rattle.engine.proofs.Turning.{stands_still, moves_behind}
@@ -94,8 +94,8 @@ module _ (terms : Terms) {B P : Type 0} (told : Bool) (view : B → View) (engin
     images_still t c image = inl (image_reads terms (view mid.bank) c w.history (history_it t)
         (still_pinned 1 (in_blocks_of (put_runs made.step)) terms (view engine.bank) (view mid.bank) w.history (λ e. absurd (omega (arith, e))) (clear t) (pinned_before t (sound t)) (wrote t)) image)
 
-    moments_still : IsTrue told → LeavesOnly (view engine.bank) (view mid.bank) (ReadsAs terms w)
-    moments_still t = weakened (view engine.bank) (view mid.bank) (λ c. Reads terms c w.history) (ReadsAs terms w)
+    meanwhile_still : IsTrue told → LeavesOnly (view engine.bank) (view mid.bank) (ReadsAs terms w)
+    meanwhile_still t = weakened (view engine.bank) (view mid.bank) (λ c. Reads terms c w.history) (ReadsAs terms w)
         (still_reads 1 (in_blocks_of (put_runs made.step)) terms (view engine.bank) (view mid.bank) w.history (λ e. absurd (omega (arith, e))) (clear t) (pinned_before t (sound t)) (wrote t) (history_it t))
         (λ c reads. inl reads)
 
@@ -106,7 +106,7 @@ module _ (terms : Terms) {B P : Type 0} (told : Bool) (view : B → View) (engin
     pub work_stays : Moves terms told view engine mid w w
     work_stays = record {
       stands = mid_stands;
-      moments = λ t. weakened (view engine.bank) (view mid.bank) (ReadsAs terms w) (ReadsBetween terms w w) (moments_still t) (λ c reads. inl reads);
+      meanwhile = λ t. weakened (view engine.bank) (view mid.bank) (ReadsAs terms w) (ReadsBetween terms w w) (meanwhile_still t) (λ c reads. inl reads);
     }
 
     module _ (form : mid.payload.items ≡ written made.step) (stored : IsTrue told → StandInAll (view mid.bank) (extents_over (put_runs made.step) made.bytes)) where
@@ -123,7 +123,7 @@ module _ (terms : Terms) {B P : Type 0} (told : Bool) (view : B → View) (engin
 
       -- its record is acknowledged, or it is owed
       pub work_moves : (new : Engine B P) (w' : World) → (IsReady terms told view mid w made → Moves terms told view mid new w w') → Moves terms told view engine new w w'
-      work_moves new w' recorded = moves_behind terms told view engine mid new w w' moments_still (recorded work_ready)
+      work_moves new w' recorded = moves_behind terms told view engine mid new w w' meanwhile_still (recorded work_ready)
 
 -- A fault outside the journal takes no job away where none runs.
 pub failed_is : (w : World) (event : Event) (moment : ℕ) → w.running ≡ nothing_runs → failed_in event moment w ≡ at_moment moment w

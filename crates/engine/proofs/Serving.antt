@@ -3,7 +3,7 @@ use Rattle.std.proofs.Common.{◌≡◌, ◌⊎◌, inl, inr, ℕ, ◌<◌, ◌�
 use Rattle.std.specs.Prelude.{IsTrue}
 use Rattle.bank.specs.Content.{Content}
 use Rattle.bank.specs.View.{View, IsImage, IsSound, LeavesOnly}
-use Rattle.bank.proofs.Moments.{weakened, joined}
+use Rattle.bank.proofs.Instants.{weakened, joined}
 use Rattle.bank.proofs.Readings.{nothing_read}
 use Rattle.journal.specs.State.{JournalState}
 use Rattle.site_events.specs.declared.event.Event.{Event}
@@ -17,7 +17,7 @@ use Rattle.site_history.specs.Turns.{moment_of, Turn, IsReopened, RefusesReopeni
 use Rattle.site_history.specs.Images.{ReadsAs, ReadsBetween}
 use Rattle.site_history.proofs.Between.{between_reopened, event_reads}
 use Rattle.site_history.proofs.Refusing.{tells_configuration}
-use Rattle.engine.specs.declared.kept.Engine.{Engine}
+use Rattle.engine.specs.declared.engine.Engine.{Engine}
 use Rattle.site_state.specs.Keeps.{Keeps}
 use Rattle.engine.specs.StandsFor.{StandsFor, Moves, IsRecovered, StaysFor}
 use Rattle.engine.proofs.Turning.{stays_here}
@@ -53,7 +53,7 @@ module _ (terms : Terms) {B P : Type 0} (told : Bool) (view : B → View) (w : W
   pub moves_from : (old mid new : Engine B P) (w' : World) → mid.bank ≡ old.bank → Moves terms told view mid new (at_moment n w) w' → Moves terms told view old new w w'
   moves_from old mid new w' bank moves = record {
     stands = moves.stands;
-    moments = λ t. subst (λ (b : B). LeavesOnly (view b) (view new.bank) (ReadsBetween terms w w')) bank (moves.moments t);
+    meanwhile = λ t. subst (λ (b : B). LeavesOnly (view b) (view new.bank) (ReadsBetween terms w w')) bank (moves.meanwhile t);
   }
 
   -- And where nothing else is done but that time goes on.
@@ -85,10 +85,10 @@ module _ (terms : Terms) {B P : Type 0} (told : Bool) (view : B → View) (event
             (inl (recovered.world, recovered.reopened, turn.1)),
         record {
           stands = turn.2.stands;
-          moments = λ t. joined (view old.bank) (view mid.bank) (view new.bank) (ReadsBetween terms w turn.0)
-              (weakened (view old.bank) (view mid.bank) (ReadsAs terms w) (ReadsBetween terms w turn.0) (recovered.moments t) (λ c reads. inl reads))
+          meanwhile = λ t. joined (view old.bank) (view mid.bank) (view new.bank) (ReadsBetween terms w turn.0)
+              (weakened (view old.bank) (view mid.bank) (ReadsAs terms w) (ReadsBetween terms w turn.0) (recovered.meanwhile t) (λ c reads. inl reads))
               (weakened (view mid.bank) (view new.bank) (ReadsBetween terms recovered.world turn.0) (ReadsBetween terms w turn.0)
-              (turn.2.moments t)
+              (turn.2.meanwhile t)
               (λ c reads. between_reopened terms ((view old.bank).content 0) w recovered.world turn.0 c
               (subst (λ (b : Bool). IsReopened terms b ((view old.bank).content 0) w recovered.world) t recovered.reopened) reads));
         },
@@ -102,7 +102,7 @@ module _ (terms : Terms) {B P : Type 0} (told : Bool) (view : B → View) (event
     subst (λ (b : Bool). EventTurnBy terms b told w event now area ((view old.bank).content 0) reply w) (sym due ∙ s.due) (inr (refuses, refl)),
     record {
       stands = stays.stands;
-      moments = λ t. weakened (view old.bank) (view new.bank) (ReadsAs terms w) (ReadsBetween terms w w) (stays.moments t) (λ c reads. inl reads);
+      meanwhile = λ t. weakened (view old.bank) (view new.bank) (ReadsAs terms w) (ReadsBetween terms w w) (stays.meanwhile t) (λ c reads. inl reads);
     },
   )
 
@@ -117,6 +117,6 @@ pub either_world : (terms : Terms) → {B P : Type 0} (told : Bool) (view : B �
     → StandsFor terms told view old w → EventTurn terms told w event now area read reply w' → Moves terms told view old new w w' → IsTrue told
     → LeavesOnly (view old.bank) (view new.bank) (λ c. ReadsAs terms w c ⊎ ReadsAs terms w' c)
 either_world terms told view old new w w' event now area read reply s turn moves t =
-    weakened (view old.bank) (view new.bank) (ReadsBetween terms w w') (λ c. ReadsAs terms w c ⊎ ReadsAs terms w' c) (moves.moments t)
+    weakened (view old.bank) (view new.bank) (ReadsBetween terms w w') (λ c. ReadsAs terms w c ⊎ ReadsAs terms w' c) (moves.meanwhile t)
     (λ c between. event_reads terms w w' c event now area read reply between (λ not_due. (s.in_step (s.due ∙ not_due)).0)
     (subst (λ (b : Bool). EventTurn terms b w event now area read reply w') t turn))

@@ -16,9 +16,9 @@ use Rattle.site_history.specs.Journals.{HoldsHistory, IsBadJournal}
 use Rattle.site_history.proofs.HistoryLaws.{after-push}
 use Rattle.site_history.proofs.WorldLaws.{first_stands, site_from_first}
 use Rattle.site_history.proofs.JournalLaws.{bare, same_steps, same_fields, same_count, same_journal_length, not_bad_journal, bad_journal_same, holds_history_same}
-use Rattle.site_history.proofs.Reopenings.{decided, images_after_reading, moments_of_reading, found_settled}
+use Rattle.site_history.proofs.Reopenings.{decided, images_after_reading, meanwhile_reading, found_settled}
 use Rattle.site_state.specs.declared.state.SiteState.{SiteState}
-use Rattle.engine.specs.declared.kept.Engine.{Engine}
+use Rattle.engine.specs.declared.engine.Engine.{Engine}
 use Rattle.engine.specs.declared.engine.ShutCause.{ShutCause}
 use Rattle.engine.specs.declared.engine.ShutCause.TheVariants.{BankFault, BadJournal, NoMemory}
 use Rattle.engine.specs.Journals.{TellsJournal}
@@ -93,7 +93,7 @@ module _ (terms : Terms) {B P : Type 0} (view : B → View) (old new : Engine B 
   stays told s site journal steps clock due only = record {
     stands = stands_still terms told view old new w s (λ fields keeps. subst (λ (x : SiteState). Keeps x fields) (sym site) keeps) journal steps clock due
         (λ is_told c image. images_after_reading terms (view old.bank) (view new.bank) w (only is_told) (s.images is_told) c image);
-    moments = λ is_told. moments_of_reading terms (view old.bank) (view new.bank) w (only is_told) (s.images is_told);
+    meanwhile = λ is_told. meanwhile_reading terms (view old.bank) (view new.bank) w (only is_told) (s.images is_told);
   }
 
   -- the journal was read: the engine stands for the world that the reopening led to
@@ -107,7 +107,7 @@ module _ (terms : Terms) {B P : Type 0} (view : B → View) (old new : Engine B 
           reopened = (fresh terms read (max w.clock (after terms read).fields.moment) h.history, refl);
           stands = stands_at terms false view new read (max w.clock (after terms read).fields.moment) h count same (omega arith) (omega (arith, s.range, new.site.range, h.keeps.moment)) due (size ∙ s.size)
               (λ is_told. absurd (let differs : false ≡ true = is_told in cc));
-          moments = λ is_told. absurd (let differs : false ≡ true = is_told in cc);
+          meanwhile = λ is_told. absurd (let differs : false ≡ true = is_told in cc);
         }
 
     recovered_told : StandsFor terms true view old w → IsSound (view new.bank) → OnlyRead (view old.bank) (view new.bank) → OnlyContent 0 (view new.bank)
@@ -128,7 +128,7 @@ module _ (terms : Terms) {B P : Type 0} (view : B → View) (old new : Engine B 
           );
           stands = stands_at terms true view new led.0 w.clock there count (omega (arith, clock, s.clock, there.keeps.moment, in_time)) in_time s.range due (size ∙ s.size)
               (λ is_told c image. led.4 c image);
-          moments = λ is_told. moments_of_reading terms (view old.bank) (view new.bank) w only (s.images refl);
+          meanwhile = λ is_told. meanwhile_reading terms (view old.bank) (view new.bank) w only (s.images refl);
         }
 
     pub recovered : (told : Bool) → StandsFor terms told view old w → (IsTrue told → IsSound (view new.bank)) → (IsTrue told → OnlyRead (view old.bank) (view new.bank)) → (IsTrue told → OnlyContent 0 (view new.bank))

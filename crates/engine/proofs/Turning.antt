@@ -3,14 +3,14 @@ use Rattle.std.proofs.Common.{◌≡◌, inl, sym, ◌∙◌, ap, Bool}
 use Rattle.std.specs.Prelude.{IsTrue}
 use Rattle.bank.specs.Content.{Image}
 use Rattle.bank.specs.View.{View, IsImage, OnlyRead, LeavesOnly}
-use Rattle.bank.proofs.Moments.{weakened, joined}
+use Rattle.bank.proofs.Instants.{weakened, joined}
 use Rattle.journal.specs.State.{JournalState}
 use Rattle.site_history.specs.Terms.{Terms}
 use Rattle.site_history.specs.Site.{Fields}
 use Rattle.site_history.specs.Worlds.{World, site_of}
 use Rattle.site_history.specs.Images.{ReadsAs, ReadsBetween}
-use Rattle.site_history.proofs.Reopenings.{images_after_reading, moments_of_reading}
-use Rattle.engine.specs.declared.kept.Engine.{Engine}
+use Rattle.site_history.proofs.Reopenings.{images_after_reading, meanwhile_reading}
+use Rattle.engine.specs.declared.engine.Engine.{Engine}
 use Rattle.site_state.specs.Keeps.{Keeps}
 use Rattle.engine.specs.StandsFor.{StandsFor, Moves}
 
@@ -52,21 +52,21 @@ module _ (terms : Terms) {B P : Type 0} (told : Bool) (view : B → View) (old n
   pub stays_here : Moves terms told view old new w w
   stays_here = record {
     stands = stands_read;
-    moments = λ t. weakened (view old.bank) (view new.bank) (ReadsAs terms w)
-        (ReadsBetween terms w w) (moments_of_reading terms (view old.bank) (view new.bank) w (only t) (s.images t)) (λ c reads. inl reads);
+    meanwhile = λ t. weakened (view old.bank) (view new.bank) (ReadsAs terms w)
+        (ReadsBetween terms w w) (meanwhile_reading terms (view old.bank) (view new.bank) w (only t) (s.images t)) (λ c reads. inl reads);
   }
 
 -- While nothing is written each image reads as the world.
-pub moments_since : (terms : Terms) → {B P : Type 0} (told : Bool) (view : B → View) (old : Engine B P) (w : World) → StandsFor terms told view old w → (bank : B)
+pub meanwhile_since : (terms : Terms) → {B P : Type 0} (told : Bool) (view : B → View) (old : Engine B P) (w : World) → StandsFor terms told view old w → (bank : B)
     → (IsTrue told → OnlyRead (view old.bank) (view bank)) → IsTrue told → LeavesOnly (view old.bank) (view bank) (ReadsAs terms w)
-moments_since terms told view old w s bank only t = moments_of_reading terms (view old.bank) (view bank) w (only t) (s.images t)
+meanwhile_since terms told view old w s bank only t = meanwhile_reading terms (view old.bank) (view bank) w (only t) (s.images t)
 
 -- What comes before a move leaves each image as it was.
 pub moves_behind : (terms : Terms) → {B P : Type 0} (told : Bool) (view : B → View) (old mid new : Engine B P) (w w' : World)
     → (IsTrue told → LeavesOnly (view old.bank) (view mid.bank) (ReadsAs terms w)) → Moves terms told view mid new w w' → Moves terms told view old new w w'
 moves_behind terms told view old mid new w w' before moves = record {
   stands = moves.stands;
-  moments = λ t. joined (view old.bank) (view mid.bank) (view new.bank) (ReadsBetween terms w w')
+  meanwhile = λ t. joined (view old.bank) (view mid.bank) (view new.bank) (ReadsBetween terms w w')
       (weakened (view old.bank) (view mid.bank) (ReadsAs terms w) (ReadsBetween terms w w') (before t) (λ c reads. inl reads))
-      (moves.moments t);
+      (moves.meanwhile t);
 }

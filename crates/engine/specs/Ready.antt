@@ -6,7 +6,7 @@ use Rattle.site_history.specs.Terms.{Terms}
 use Rattle.site_history.specs.Steps.{HistoryStep, IsLegal, HasBytes, step_extents}
 use Rattle.site_history.specs.Worlds.{World, site_of}
 use Rattle.site_history.specs.Pinned.{StandInAll}
-use Rattle.engine.specs.declared.kept.Engine.{Engine}
+use Rattle.engine.specs.declared.engine.Engine.{Engine}
 use Rattle.engine.specs.StandsFor.{StandsFor}
 
 -- The engine stands for a world with nothing open. The step may come there, at the clock's moment; its written form is in the

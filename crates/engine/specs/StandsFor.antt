@@ -9,7 +9,7 @@ use Rattle.site_history.specs.Worlds.{World, site_of, steps_of, IsOnKeptBase, Is
 use Rattle.site_history.specs.Turns.{IsReopened}
 use Rattle.site_history.specs.Images.{ReadsAs, ReadsBetween}
 use Rattle.site_state.specs.Keeps.{Keeps}
-use Rattle.engine.specs.declared.kept.Engine.{Engine}
+use Rattle.engine.specs.declared.engine.Engine.{Engine}
 
 -- the engine keeps what the world's site has, and its journal goes on at the world's place
 pub record IsInStep (terms : Terms) {B P : Type 0} (engine : Engine B P) (w : World) : Type 0 where
@@ -37,16 +37,16 @@ pub record StandsFor (terms : Terms) {B P : Type 0} (told : Bool) (view : B → 
 -- It stands for another world then, and each image meanwhile reads as the one before or as a history between the two.
 pub record Moves (terms : Terms) {B P : Type 0} (told : Bool) (view : B → View) (old new : Engine B P) (w w' : World) : Type 0 where
   pub stands : StandsFor terms told view new w'
-  pub moments : IsTrue told → LeavesOnly (view old.bank) (view new.bank) (ReadsBetween terms w w')
+  pub meanwhile : IsTrue told → LeavesOnly (view old.bank) (view new.bank) (ReadsBetween terms w w')
 
 -- A reopening came to the world that the journal held, and the engine stands for it. Each image meanwhile reads as the world before.
 pub record IsRecovered (terms : Terms) {B P : Type 0} (told : Bool) (view : B → View) (old new : Engine B P) (w : World) : Type 0 where
   pub world : World
   pub reopened : IsReopened terms told ((view old.bank).content 0) w world
   pub stands : StandsFor terms told view new world
-  pub moments : IsTrue told → LeavesOnly (view old.bank) (view new.bank) (ReadsAs terms w)
+  pub meanwhile : IsTrue told → LeavesOnly (view old.bank) (view new.bank) (ReadsAs terms w)
 
 -- It stands for the world still, and each image meanwhile reads as it.
 pub record StaysFor (terms : Terms) {B P : Type 0} (told : Bool) (view : B → View) (old new : Engine B P) (w : World) : Type 0 where
   pub stands : StandsFor terms told view new w
-  pub moments : IsTrue told → LeavesOnly (view old.bank) (view new.bank) (ReadsAs terms w)
+  pub meanwhile : IsTrue told → LeavesOnly (view old.bank) (view new.bank) (ReadsAs terms w)

@@ -11,7 +11,7 @@ ghost use Rattle.engine.specs.Ready.{IsReady};
 ghost use Rattle.site_state.specs.Room.{IsPrepared};
 ghost use Rattle.engine.specs.StandsFor.{Moves};
 
-use crate::kept::Engine;
+use crate::engine::Engine;
 use bank::{Bank, BankFailed};
 use journal::AppendRefusal;
 use site_state::Prepared;
@@ -41,7 +41,7 @@ impl<B: Bank, P: Drop> Engine<B, P> {
         ensures size { self.new.journal.size ≡ self.old.journal.size }
         ensures clock { self.new.clock ≡ self.old.clock }
         ensures patterns { self.new.patterns ≡ self.old.patterns }
-        ensures moment { IsTrue B.tells → (B.view self.old.bank).moment ≤ (B.view self.new.bank).moment }
+        ensures instant { IsTrue B.tells → (B.view self.old.bank).instant ≤ (B.view self.new.bank).instant }
     {
         match self.journal.append(&mut self.bank, &self.payload) {
             Ok(_) => {

@@ -18,12 +18,13 @@ ghost use Rattle.engine.specs.Journals.{TellsJournal, RepliesJournal};
 ghost use Rattle.engine.specs.Counts.{IsRepliedFor};
 ghost use Rattle.engine.specs.Served.{IsServed};
 
-use crate::kept::Engine;
 use crate::reopen::read_site;
 use bank::Bank;
 use configuration::Configuration;
 use decisions::decide;
+use journal::Journal;
 use site_events::{Event, Reply};
+use site_state::SiteState;
 use std::alloc::Global;
 
 /// The last moment, in seconds.
@@ -31,6 +32,25 @@ const LAST_MOMENT: u64 = (1 << 40) - 1;
 
 /// The longest payload of a record, in bytes.
 const PAYLOAD_MAX: usize = 1_048_576;
+
+/// A site over a store.
+#[derive(Drop)]
+pub struct Engine<B, P> {
+    pub alloc: Global,
+    pub bank: B,
+    pub patterns: P,
+    pub journal: Journal,
+    pub site: SiteState,
+    /// How many steps were acknowledged.
+    pub steps: u64,
+    /// The written form of the step in hand.
+    pub payload: Vec<u8>,
+    /// The moment of the last event, in seconds.
+    pub clock: u64,
+    /// Whether the journal is to be read again before the next event.
+    pub due: bool,
+    pub ghost range: { clock < 2 ^ 40 },
+}
 
 /// Why a store was not opened.
 #[derive(Clone, Copy, Debug, PartialEq, Eq)]
@@ -148,7 +168,7 @@ impl<B: Bank, P: Drop> Engine<B, P> {
         ensures ready { self.old.due ≡ false → result ≢ Reply.BankFault → self.new.due ≡ false }
         ensures size { self.new.journal.size ≡ self.old.journal.size }
         ensures patterns { self.new.patterns ≡ self.old.patterns }
-        ensures moment { IsTrue B.tells → (B.view self.old.bank).moment ≤ (B.view self.new.bank).moment }
+        ensures instant { IsTrue B.tells → (B.view self.old.bank).instant ≤ (B.view self.new.bank).instant }
     {
         if self.due {
             match self.recover() {

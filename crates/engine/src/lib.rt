@@ -4,12 +4,10 @@
 mod commit;
 mod data;
 mod engine;
-mod kept;
 mod payload;
 mod perform;
 mod reopen;
 mod work;
 
 pub use configuration::{Configuration, read_texts};
-pub use engine::{Shut, ShutCause};
-pub use kept::Engine;
+pub use engine::{Engine, Shut, ShutCause};

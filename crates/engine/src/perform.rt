@@ -11,7 +11,7 @@ ghost use Rattle.decisions.specs.Needs.{IsPerformable, IsRecordable, NamesNoFaul
 ghost use Rattle.engine.specs.StandsFor.{StandsFor, Moves};
 ghost use Rattle.engine.specs.Served.{IsServed};
 
-use crate::kept::Engine;
+use crate::engine::Engine;
 use crate::payload::write_payload;
 use crate::work::do_work;
 use bank::Bank;

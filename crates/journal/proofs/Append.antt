@@ -5,7 +5,7 @@ use Rattle.std.specs.Int.{w32, to_le_bytes}
 use Rattle.bank.specs.Content.{Content, Stands, SameOutside}
 use Rattle.bank.specs.View.{View, IsSound, Wrote, IsTornImage, LeavesOnly, OnlyContent}
 use Rattle.bank.proofs.Spans.{Stands-front, Stands-back, Stands-same, Stands-append}
-use Rattle.bank.proofs.Moments.{started, weakened, joined}
+use Rattle.bank.proofs.Instants.{started, weakened, joined}
 use Rattle.journal.specs.Records.{IsPayload, frame, HoldsRecords, end_of, AllHold, IsBeforeOrAfter}
 use Rattle.journal.proofs.RecordLaws.{length-frame, end-push, before-same, records-push, holds-same}
 
@@ -35,8 +35,8 @@ module _ (p : ℕ) (xs : List (List ℕ)) (x : List ℕ) (size : ℕ) (e : p ≡
   untouched v sound hold = started v (IsBeforeOrAfter v xs x size) sound (λ c image. record { records = inl (hold.each (c 0) (image 0)); others = λ a ne. image a })
 
   -- while the frame is written behind the closed gate
-  pub stage_moments : (v w : View) → AllHold v xs size → Wrote 0 (p + 1) (5 + length x) v w → LeavesOnly v w (IsBeforeOrAfter v xs x size)
-  stage_moments v w hold h = weakened v w (IsTornImage v 0 (p + 1) (5 + length x)) (IsBeforeOrAfter v xs x size) h.moments (λ c t. record {
+  pub closed_meanwhile : (v w : View) → AllHold v xs size → Wrote 0 (p + 1) (5 + length x) v w → LeavesOnly v w (IsBeforeOrAfter v xs x size)
+  closed_meanwhile v w hold h = weakened v w (IsTornImage v 0 (p + 1) (5 + length x)) (IsBeforeOrAfter v xs x size) h.meanwhile (λ c t. record {
     records = inl (holds-same t.torn.0 (c 0) 0 xs size (λ k le. t.torn.2 k (inl (omega (arith, le, e)))) (hold.each t.torn.0 t.torn.1));
     others = t.others;
   })
@@ -61,9 +61,9 @@ module _ (p : ℕ) (xs : List (List ℕ)) (x : List ℕ) (size : ℕ) (e : p ≡
     ]
 
     -- while the gate is written
-    pub gate_moments : (u : View) → Wrote 0 p 1 w u → LeavesOnly v u (IsBeforeOrAfter v xs x size)
-    gate_moments u g = joined v w u (IsBeforeOrAfter v xs x size) (stage_moments v w hold h)
-        (weakened w u (IsTornImage w 0 p 1) (IsBeforeOrAfter v xs x size) g.moments (λ c t. record {
+    pub gate_meanwhile : (u : View) → Wrote 0 p 1 w u → LeavesOnly v u (IsBeforeOrAfter v xs x size)
+    gate_meanwhile u g = joined v w u (IsBeforeOrAfter v xs x size) (closed_meanwhile v w hold h)
+        (weakened w u (IsTornImage w 0 p 1) (IsBeforeOrAfter v xs x size) g.meanwhile (λ c t. record {
           records = either (c 0) (λ k out. t.torn.2 k out ∙ sym (only t.torn.0 t.torn.1 k));
           others = λ a ne. h.other_images a (c a) ne (t.others a ne);
         }))

@@ -8,9 +8,9 @@ use Rattle.bank.specs.View.{View, IsImage, IsSound, IsTornImage, LeavesOnly, Wro
 use Rattle.journal.specs.Records.{IsPayload, AreRecords, end_of, IsEnd, HoldsRecords, AllHold}
 use Rattle.journal.proofs.RecordLaws.{end-within, before-same, one_list}
 
--- what each image since a moment has, an image now has
+-- what each image since a instant has, an image now has
 pub now_has : (old new : View) (P : Image → Type 0) → IsSound new → LeavesOnly old new P → (c : Image) → IsImage new c → P c
-now_has old new P sound h c image = h.each c (sound.counts_now old.moment c h.later image)
+now_has old new P sound h c image = h.each c (sound.counts_now old.instant c h.later image)
 
 module _ (xs : List (List ℕ)) (size : ℕ) where
   -- an image holds the records, and so does what a read gives
@@ -27,7 +27,7 @@ module _ (xs : List (List ℕ)) (size : ℕ) where
   pub hold_elsewhere : (area p n : ℕ) (old new : View) → area ≢ 0 → Wrote area p n old new → AllHold old xs size → AllHold new xs size
   hold_elsewhere area p n old new ne h hold = record { each = λ c left. hold.each c (h.other_images 0 c (λ e. ne (sym e)) left) }
 
-  -- and at each moment meanwhile
+  -- and at each instant meanwhile
   pub torn_holds : (area p n : ℕ) (v : View) (c : Image) → area ≢ 0 → AllHold v xs size → IsTornImage v area p n c → HoldsRecords (c 0) 0 xs size
   torn_holds area p n v c ne hold torn = hold.each (c 0) (torn.others 0 (λ e. ne (sym e)))
 

@@ -7,7 +7,7 @@ ghost use Rattle.journal.specs.Records.{IsPayload, AllHold, IsBeforeOrAfter, end
 
 use crate::gate::open_gate;
 use crate::refusal::AppendRefusal;
-use crate::writing::{BUFFER_ROOM, stage};
+use crate::writing::{BUFFER_ROOM, write_closed};
 use bank::Bank;
 use base::JOURNAL_SIZE_MAX;
 use std::marker::Model;
@@ -82,8 +82,8 @@ impl Journal {
     pub fn append<B: Bank>(&mut self, bank: &mut B, payload: &[u8]) -> Result<u64, AppendRefusal>
         requires { IsPayload payload.now }
 
-        // A crash at any moment of the call leaves the records from before it, with the new one or without.
-        ensures any_moment { IsTrue B.tells → (payloads : Seq (Seq ℕ)) → self.old.place ≡ end_of 0 payloads → AllHold (B.view bank.old) payloads self.old.size
+        // A crash at any instant of the call leaves the records from before it, with the new one or without.
+        ensures any_instant { IsTrue B.tells → (payloads : Seq (Seq ℕ)) → self.old.place ≡ end_of 0 payloads → AllHold (B.view bank.old) payloads self.old.size
             → LeavesOnly (B.view bank.old) (B.view bank.new) (IsBeforeOrAfter (B.view bank.old) payloads payload.now self.old.size) }
 
         // At `Ok` each crash leaves them with it.
@@ -113,7 +113,7 @@ impl Journal {
         if !self.has_room(payload.len()) {
             return Err(AppendRefusal::JournalFull);
         }
-        stage(bank, &mut self.buffer, self.place, payload)?;
+        write_closed(bank, &mut self.buffer, self.place, payload)?;
         open_gate(bank, self.place)?;
         self.place += 5 + payload.len() as u64;
         self.count += 1;

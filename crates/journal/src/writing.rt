@@ -62,7 +62,7 @@ fn write_long<B: Bank>(bank: &mut B, place: u64, payload: &[u8]) -> Result<(), B
 }
 
 /// Writes a payload's frame and a closed gate behind the gate at a place, and syncs. The gate stays as it was.
-pub fn stage<B: Bank>(
+pub fn write_closed<B: Bank>(
     bank: &mut B,
     buffer: &mut Vec<u8>,
     place: u64,

@@ -74,7 +74,7 @@ fn listed_calls_fail_and_change_nothing(rt: HostRuntime) -> Result<(), Fail> {
             .count(),
         9
     );
-    assert_eq!(rt; bank.moment(), 15);
+    assert_eq!(rt; bank.instant(), 15);
     Ok(())
 }
 
@@ -86,7 +86,7 @@ fn a_crash_leaves_what_was_picked(rt: HostRuntime) -> Result<(), Fail> {
     bank.write(1, 1, &[3])?;
     bank.sync(0)?;
     bank.write(1, 3, &[4])?;
-    for (moment, images) in [
+    for (instant, images) in [
         (0, [[0, 0, 0, 0], [0, 0, 0, 0], [0, 0, 0, 0]]),
         (1, [[0, 0, 0, 0], [1, 2, 0, 0], [0xA5, 0xA5, 0, 0]]),
         (2, [[1, 2, 0, 0], [1, 2, 0, 0], [1, 2, 0, 0]]),
@@ -95,11 +95,11 @@ fn a_crash_leaves_what_was_picked(rt: HostRuntime) -> Result<(), Fail> {
         (99, [[1, 2, 0, 0], [1, 3, 0, 4], [1, 0xA5, 0, 0xA5]]),
     ] {
         for (pick, image) in images.iter().enumerate() {
-            let crashed = bank.crashed(moment, pick as u8)?;
+            let crashed = bank.crashed(instant, pick as u8)?;
             let mut again = crashed.crashed(0, 0)?;
             let mut got = [0u8; 4];
             again.read(1, 0, &mut got)?;
-            assert_eq!(rt; got, *image, "moment {moment} pick {pick}");
+            assert_eq!(rt; got, *image, "instant {instant} pick {pick}");
         }
     }
     Ok(())

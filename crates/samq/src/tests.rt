@@ -356,10 +356,10 @@ fn steps_after(rt: &impl Abort, alloc: Global, bank: MemoryBank) -> Result<u64, 
 }
 
 // How many steps were acknowledged at a moment.
-fn acknowledged(marks: &[Mark], moment: u64) -> u64 {
+fn acknowledged(marks: &[Mark], instant: u64) -> u64 {
     let mut steps = 0;
     for mark in marks {
-        if mark.moment <= moment {
+        if mark.instant <= instant {
             steps = mark.steps;
         }
     }
@@ -380,10 +380,10 @@ fn a_crash_leaves_each_acknowledged_step(rt: HostRuntime) -> Result<(), Fail> {
             &[1, 2, 3, 4, 5],
         ),
     )?;
-    for moment in 0..=left.bank.moment() {
-        let least = acknowledged(left.marks.as_slice(), moment);
+    for instant in 0..=left.bank.instant() {
+        let least = acknowledged(left.marks.as_slice(), instant);
         for pick in 0..3 {
-            let steps = steps_after(&rt, alloc, left.bank.crashed(moment, pick)?)?;
+            let steps = steps_after(&rt, alloc, left.bank.crashed(instant, pick)?)?;
             assert!(rt; least <= steps);
             assert!(rt; steps <= least.saturating_add(1));
         }

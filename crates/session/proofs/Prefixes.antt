@@ -19,7 +19,7 @@ use Rattle.site_history.specs.Worlds.{World, steps_of, at, at_moment, owing_in, 
 use Rattle.site_history.specs.Turns.{answer_in, answered_in, failed_in, moment_of, TurnBy, Course, Goes, Stays, Fails, Owes, course_of, IsReopened, EventTurnBy}
 use Rattle.site_history.specs.Images.{Reads, ReadsAs}
 use Rattle.site_history.proofs.Between.{begins_same, begins_then, begins_with, led_begins}
-use Rattle.session.specs.Rounds.{Stage, Round, IsEvent, IsRoundOf, IsRun, stage_after, marks_from}
+use Rattle.session.specs.Rounds.{Phase, Round, IsEvent, IsRoundOf, IsRun, phase_after, marks_from}
 use Rattle.session.specs.Kept.{AreKept, AreHeld}
 
 -- A world goes on from another: its history begins with the other's, and it stands on the first site where the other does.
@@ -57,36 +57,36 @@ event_goes_on terms true w event now area journal reply w' (inl (w0, reopened, t
     (turn_goes_on (course_of reply area) true (answer_in terms w0 (moment_of w0.clock now) event) w0 event (moment_of w0.clock now) reply w' turn)
 
 -- And so it does by a round.
-stage_alike : (stage stage' : Stage) → stage' ≡ stage → GoesOn stage.world stage'.world
-stage_alike stage stage' e = goes_on_alike stage.world stage.world stage'.world (ap (λ (s : Stage). s.world) e) (stays_on stage.world)
+phase_alike : (phase phase' : Phase) → phase' ≡ phase → GoesOn phase.world phase'.world
+phase_alike phase phase' e = goes_on_alike phase.world phase.world phase'.world (ap (λ (s : Phase). s.world) e) (stays_on phase.world)
 
-stage_event : (terms : Terms) (stage : Stage) (event : Event) (area : ℕ) (journal : Content) (reply : Reply) (stage' : Stage) → IsEvent terms true stage event area journal reply stage' → GoesOn stage.world stage'.world
-stage_event terms stage event area journal reply stage' turn =
-    event_goes_on terms stage.world.due stage.world event turn.0 area journal reply stage'.world turn.2
+phase_event : (terms : Terms) (phase : Phase) (event : Event) (area : ℕ) (journal : Content) (reply : Reply) (phase' : Phase) → IsEvent terms true phase event area journal reply phase' → GoesOn phase.world phase'.world
+phase_event terms phase event area journal reply phase' turn =
+    event_goes_on terms phase.world.due phase.world event turn.0 area journal reply phase'.world turn.2
 
-asked_goes_on : (terms : Terms) (folder : Option (List NamedText)) (stage : Stage) (asked : Asked) (area : ℕ) (journal : Content) (reply : Reply) (stage' : Stage) → IsRoundOf terms true folder stage (Ok asked) area journal reply stage'
-    → GoesOn stage.world stage'.world
-asked_goes_on terms folder stage (One event) area journal reply stage' (inl lost) = stage_alike stage stage' lost.1
-asked_goes_on terms folder stage (One event) area journal reply stage' (inr turn) = stage_event terms stage event area journal reply stage' turn
-asked_goes_on terms folder stage (AskedAt moment) area journal reply stage' (inl lost) = stage_alike stage stage' lost.1
-asked_goes_on terms folder stage (AskedAt moment) area journal reply stage' (inr moved) =
-    goes_on_alike stage.world stage.world stage'.world (ap (λ (s : Stage). s.world) moved.3) (stays_on stage.world)
-asked_goes_on terms folder stage Configure area journal reply stage' (inl unread) = stage_alike stage stage' unread.1
-asked_goes_on terms folder stage Configure area journal reply stage' (inr (texts, read, turn)) = stage_event terms stage (ConfigureEvent texts) area journal reply stage' turn
-asked_goes_on terms folder stage _ area journal reply stage' answers = stage_alike stage stage' answers.1
+asked_goes_on : (terms : Terms) (folder : Option (List NamedText)) (phase : Phase) (asked : Asked) (area : ℕ) (journal : Content) (reply : Reply) (phase' : Phase) → IsRoundOf terms true folder phase (Ok asked) area journal reply phase'
+    → GoesOn phase.world phase'.world
+asked_goes_on terms folder phase (One event) area journal reply phase' (inl lost) = phase_alike phase phase' lost.1
+asked_goes_on terms folder phase (One event) area journal reply phase' (inr turn) = phase_event terms phase event area journal reply phase' turn
+asked_goes_on terms folder phase (AskedAt moment) area journal reply phase' (inl lost) = phase_alike phase phase' lost.1
+asked_goes_on terms folder phase (AskedAt moment) area journal reply phase' (inr moved) =
+    goes_on_alike phase.world phase.world phase'.world (ap (λ (s : Phase). s.world) moved.3) (stays_on phase.world)
+asked_goes_on terms folder phase Configure area journal reply phase' (inl unread) = phase_alike phase phase' unread.1
+asked_goes_on terms folder phase Configure area journal reply phase' (inr (texts, read, turn)) = phase_event terms phase (ConfigureEvent texts) area journal reply phase' turn
+asked_goes_on terms folder phase _ area journal reply phase' answers = phase_alike phase phase' answers.1
 
-round_goes_on : (terms : Terms) (folder : Option (List NamedText)) (stage : Stage) (request : Result Asked LineRefusal) (area : ℕ) (journal : Content) (reply : Reply) (stage' : Stage) → IsRoundOf terms true folder stage request area journal reply stage'
-    → GoesOn stage.world stage'.world
-round_goes_on terms folder stage (Err refusal) area journal reply stage' answers = stage_alike stage stage' answers.1
-round_goes_on terms folder stage (Ok asked) area journal reply stage' round = asked_goes_on terms folder stage asked area journal reply stage' round
+round_goes_on : (terms : Terms) (folder : Option (List NamedText)) (phase : Phase) (request : Result Asked LineRefusal) (area : ℕ) (journal : Content) (reply : Reply) (phase' : Phase) → IsRoundOf terms true folder phase request area journal reply phase'
+    → GoesOn phase.world phase'.world
+round_goes_on terms folder phase (Err refusal) area journal reply phase' answers = phase_alike phase phase' answers.1
+round_goes_on terms folder phase (Ok asked) area journal reply phase' round = asked_goes_on terms folder phase asked area journal reply phase' round
 
 -- And so it does by a run.
-run_goes_on : (terms : Terms) (folder : Option (List NamedText)) (stage : Stage) (rounds : List Round) → IsRun terms true folder stage rounds
-    → GoesOn stage.world (stage_after stage rounds).world
-run_goes_on terms folder stage [] run = stays_on stage.world
-run_goes_on terms folder stage (x ∷ rounds) run =
-    goes_further stage.world x.after.world (stage_after x.after rounds).world
-    (round_goes_on terms folder stage x.request.asked x.area x.journal x.reply x.after run.0) (run_goes_on terms folder x.after rounds run.1)
+run_goes_on : (terms : Terms) (folder : Option (List NamedText)) (phase : Phase) (rounds : List Round) → IsRun terms true folder phase rounds
+    → GoesOn phase.world (phase_after phase rounds).world
+run_goes_on terms folder phase [] run = stays_on phase.world
+run_goes_on terms folder phase (x ∷ rounds) run =
+    goes_further phase.world x.after.world (phase_after x.after rounds).world
+    (round_goes_on terms folder phase x.request.asked x.area x.journal x.reply x.after run.0) (run_goes_on terms folder x.after rounds run.1)
 
 -- An image that reads as a world reads as a history that begins with the world's.
 read_begins : (terms : Terms) (c : Image) (front : List HistoryStep) (w : World) → Begins front w.history → ReadsAs terms w c → (steps : List HistoryStep) × Reads terms c steps × Begins front steps
@@ -94,20 +94,20 @@ read_begins terms c front w begins (inl reads) = (w.history, reads, begins)
 read_begins terms c front w begins (inr (made, owed, reads)) = (w.history ++ made ∷ [], reads, begins_then front w.history (w.history ++ made ∷ []) begins (made ∷ [], refl))
 
 -- An image since a moment reads as a history that begins with that which stood at the moment.
-since_begins : (terms : Terms) (folder : Option (List NamedText)) (v : View) (from : ℕ) (stage : Stage) (rounds : List Round) → AreKept terms v from stage.world rounds → IsRun terms true folder stage rounds
-    → (c : Image) → v.left_since from c → (steps : List HistoryStep) × Reads terms c steps × Begins stage.world.history steps
-since_begins terms folder v from stage [] kept run c left = read_begins terms c stage.world.history stage.world (begins_same stage.world.history) (kept c left)
-since_begins terms folder v from stage (x ∷ rounds) kept run c left = by_time (kept.0 c left) (since_begins terms folder v x.moment x.after rounds kept.1 run.1 c)
+since_begins : (terms : Terms) (folder : Option (List NamedText)) (v : View) (from : ℕ) (phase : Phase) (rounds : List Round) → AreKept terms v from phase.world rounds → IsRun terms true folder phase rounds
+    → (c : Image) → v.left_since from c → (steps : List HistoryStep) × Reads terms c steps × Begins phase.world.history steps
+since_begins terms folder v from phase [] kept run c left = read_begins terms c phase.world.history phase.world (begins_same phase.world.history) (kept c left)
+since_begins terms folder v from phase (x ∷ rounds) kept run c left = by_time (kept.0 c left) (since_begins terms folder v x.instant x.after rounds kept.1 run.1 c)
   where
-    begins : Begins stage.world.history x.after.world.history
-    begins = (round_goes_on terms folder stage x.request.asked x.area x.journal x.reply x.after run.0).history
+    begins : Begins phase.world.history x.after.world.history
+    begins = (round_goes_on terms folder phase x.request.asked x.area x.journal x.reply x.after run.0).history
 
-    by_time : v.left_since x.moment c ⊎ (ReadsAs terms stage.world c ⊎ ReadsAs terms x.after.world c)
-        → (v.left_since x.moment c → (steps : List HistoryStep) × Reads terms c steps × Begins x.after.world.history steps)
-        → (steps : List HistoryStep) × Reads terms c steps × Begins stage.world.history steps
-    by_time (inl later) behind = let r = behind later in (r.0, r.1, begins_then stage.world.history x.after.world.history r.0 begins r.2)
-    by_time (inr (inl reads)) behind = read_begins terms c stage.world.history stage.world (begins_same stage.world.history) reads
-    by_time (inr (inr reads)) behind = read_begins terms c stage.world.history x.after.world begins reads
+    by_time : v.left_since x.instant c ⊎ (ReadsAs terms phase.world c ⊎ ReadsAs terms x.after.world c)
+        → (v.left_since x.instant c → (steps : List HistoryStep) × Reads terms c steps × Begins x.after.world.history steps)
+        → (steps : List HistoryStep) × Reads terms c steps × Begins phase.world.history steps
+    by_time (inl later) behind = let r = behind later in (r.0, r.1, begins_then phase.world.history x.after.world.history r.0 begins r.2)
+    by_time (inr (inl reads)) behind = read_begins terms c phase.world.history phase.world (begins_same phase.world.history) reads
+    by_time (inr (inr reads)) behind = read_begins terms c phase.world.history x.after.world begins reads
 
 -- The first steps of a history from the first site, as many as led to an earlier world, are that world's.
 front_of : (w : World) (last : List HistoryStep) → w.base.steps ≡ 0 → Begins w.history last → take (steps_of w) last ≡ w.history
@@ -116,16 +116,16 @@ front_of w last first begins =
     ap (λ (n : ℕ). take n last) so_many ∙ ap (λ (l : List HistoryStep). take (length w.history) l) begins.1 ∙ take-append_seam w.history begins.0
 
 -- What a crash left since the moment of a mark begins with the steps that the mark counts.
-pub marks_held : (terms : Terms) (folder : Option (List NamedText)) (v : View) (from n : ℕ) (stage : Stage) (told untold : List Round) → stage.world.base.steps ≡ 0 → AreKept terms v from stage.world (told ++ untold) → IsRun terms true folder stage (told ++ untold)
-    → AreHeld terms v (stage_after stage (told ++ untold)).world.history (marks_from n told)
-marks_held terms folder v from n stage [] untold first kept run = tt
-marks_held terms folder v from n stage (x ∷ told) untold first kept run = (
+pub marks_held : (terms : Terms) (folder : Option (List NamedText)) (v : View) (from n : ℕ) (phase : Phase) (answered unanswered : List Round) → phase.world.base.steps ≡ 0 → AreKept terms v from phase.world (answered ++ unanswered) → IsRun terms true folder phase (answered ++ unanswered)
+    → AreHeld terms v (phase_after phase (answered ++ unanswered)).world.history (marks_from n answered)
+marks_held terms folder v from n phase [] unanswered first kept run = tt
+marks_held terms folder v from n phase (x ∷ answered) unanswered first kept run = (
   λ c left.
-      let r = since_begins terms folder v x.moment x.after (told ++ untold) kept.1 run.1 c left in
-      let same = front_of x.after.world (stage_after x.after (told ++ untold)).world.history first_then (run_goes_on terms folder x.after (told ++ untold) run.1).history in
+      let r = since_begins terms folder v x.instant x.after (answered ++ unanswered) kept.1 run.1 c left in
+      let same = front_of x.after.world (phase_after x.after (answered ++ unanswered)).world.history first_then (run_goes_on terms folder x.after (answered ++ unanswered) run.1).history in
       (r.0, r.1, (r.2.0, r.2.1 ∙ ap (λ (l : List HistoryStep). l ++ r.2.0) (sym same))),
-  marks_held terms folder v x.moment (n + 1) x.after told untold first_then kept.1 run.1,
+  marks_held terms folder v x.instant (n + 1) x.after answered unanswered first_then kept.1 run.1,
 )
   where
     first_then : x.after.world.base.steps ≡ 0
-    first_then = (round_goes_on terms folder stage x.request.asked x.area x.journal x.reply x.after run.0).first first
+    first_then = (round_goes_on terms folder phase x.request.asked x.area x.journal x.reply x.after run.0).first first

@@ -11,7 +11,7 @@ use Rattle.engine.specs.declared.engine.ShutCause.{ShutCause}
 use Rattle.engine.specs.declared.engine.ShutCause.TheVariants.{BankFault, BadJournal, NoMemory}
 use Rattle.engine.specs.Journals.{TellsJournal}
 use Rattle.session.specs.Session.{Outside}
-use Rattle.session.specs.Refusing.{TellsRefusal, status_of_shut}
+use Rattle.session.specs.Refusing.{WritesRefusal, status_of_shut}
 use Rattle.session.specs.Outcomes.{Refusal, IsRefused, HasStatus}
 use Rattle.session.specs.declared.kept.Mark.{Mark}
 use Rattle.session.proofs.StatusCauses.{by_bank, by_memory, by_bad_journal}
@@ -19,7 +19,7 @@ use Rattle.session.proofs.StatusCauses.{by_bank, by_memory, by_bad_journal}
 -- A refusal by what shut the store.
 refusal_of : (terms : Terms) (old new : Outside) (tells : Bool) (journal : Content) (cause : ShutCause) (status : ℕ) → status ≡ status_of_shut cause
     → (cause ≡ BankFault → Rose old.bank_faults new.bank_faults) → (IsTrue tells → TellsJournal terms journal cause)
-    → TellsRefusal old.written new.written old.sink_faults new.sink_faults cause → Refusal terms old new tells journal status
+    → WritesRefusal old.written new.written old.sink_faults new.sink_faults cause → Refusal terms old new tells journal status
 refusal_of terms old new tells journal BankFault status is rose bad told = inl (is, rose refl, told)
 refusal_of terms old new tells journal NoMemory status is rose bad told = inr (inl (is, told))
 refusal_of terms old new tells journal (BadJournal place) status is rose bad told = inr (inr (place, is, bad, told))
@@ -36,7 +36,7 @@ pub still_settled : (terms : Terms) (entry store : View) (before : List HistoryS
 still_settled terms entry store before told tells so read settled t = settled_after_reading terms entry store before (read (so t)) (settled t)
 
 module _ (terms : Terms) (old new : Outside) (tells : Bool) (entry store : View) (cause : ShutCause) (status : ℕ) (is : status ≡ status_of_shut cause) (rose : cause ≡ BankFault → Rose old.bank_faults new.bank_faults)
-    (bad : IsTrue tells → TellsJournal terms (entry.content 0) cause) (written : TellsRefusal old.written new.written old.sink_faults new.sink_faults cause) where
+    (bad : IsTrue tells → TellsJournal terms (entry.content 0) cause) (written : WritesRefusal old.written new.written old.sink_faults new.sink_faults cause) where
   -- What was handed back by a store that was shut.
   pub shut_refused : (marks : List Mark) → (IsTrue tells → OnlyRead entry store)
       → new.left ≡ old.left → new.source_faults ≡ old.source_faults → new.folder ≡ old.folder → new.folder_faults ≡ old.folder_faults → marks ≡ [] → IsRefused terms tells entry store old new marks status

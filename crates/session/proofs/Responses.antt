@@ -7,7 +7,7 @@ use Rattle.base.specs.Causes.{Rose, AreCounted}
 use Rattle.outside.specs.declared.folder.NamedText.{NamedText}
 use Rattle.bank.specs.Content.{Content}
 use Rattle.bank.specs.View.{View, IsSound, LeavesOnly}
-use Rattle.bank.proofs.Moments.{started}
+use Rattle.bank.proofs.Instants.{started}
 use Rattle.site_events.specs.declared.event.Asked.{Asked}
 use Rattle.site_events.specs.declared.event.Asked.TheVariants.{One, At as AskedAt, Configure}
 use Rattle.site_events.specs.declared.event.Event.{Event}
@@ -22,12 +22,12 @@ use Rattle.site_history.specs.Terms.{Terms}
 use Rattle.site_history.specs.Worlds.{World}
 use Rattle.site_history.specs.Turns.{EventTurn}
 use Rattle.site_history.specs.Images.{ReadsAs}
-use Rattle.engine.specs.declared.kept.Engine.{Engine}
+use Rattle.engine.specs.declared.engine.Engine.{Engine}
 use Rattle.engine.specs.StandsFor.{Moves}
 use Rattle.engine.proofs.Serving.{either_world}
 use Rattle.session.specs.Requests.{reply_to}
 use Rattle.session.specs.Hearing.{IsReadAs}
-use Rattle.session.specs.Rounds.{Stage, own, moments_of, IsEvent, IsRoundOf, faults_of, journal_faults_of, folder_faults_of}
+use Rattle.session.specs.Rounds.{Phase, own, moments_of, IsEvent, IsRoundOf, faults_of, journal_faults_of, folder_faults_of}
 use Rattle.session.specs.Standing.{StandsAt, IsMoved}
 use Rattle.session.proofs.AnswerCauses.{event_folder}
 
@@ -46,12 +46,12 @@ counted_journal BankFault area before now fault later = by_area (area == 0) refl
 counted_journal _ area before now fault later = omega (arith, later)
 
 -- Want of memory may be answered to any request.
-memory_lost : (terms : Terms) (told : Bool) (folder : Option (List NamedText)) (stage : Stage) (demand : Result Asked LineRefusal) (area : ℕ) (journal : Content) → IsRoundOf terms told folder stage demand area journal NoMemory stage
-memory_lost terms told folder stage (Err refusal) area journal = (inr refl, refl)
-memory_lost terms told folder stage (Ok (One event)) area journal = inl (refl, refl)
-memory_lost terms told folder stage (Ok (AskedAt moment)) area journal = inl (refl, refl)
-memory_lost terms told folder stage (Ok Configure) area journal = inl (inr refl, refl)
-memory_lost terms told folder stage (Ok _) area journal = (inr refl, refl)
+memory_lost : (terms : Terms) (told : Bool) (folder : Option (List NamedText)) (phase : Phase) (demand : Result Asked LineRefusal) (area : ℕ) (journal : Content) → IsRoundOf terms told folder phase demand area journal NoMemory phase
+memory_lost terms told folder phase (Err refusal) area journal = (inr refl, refl)
+memory_lost terms told folder phase (Ok (One event)) area journal = inl (refl, refl)
+memory_lost terms told folder phase (Ok (AskedAt moment)) area journal = inl (refl, refl)
+memory_lost terms told folder phase (Ok Configure) area journal = inl (inr refl, refl)
+memory_lost terms told folder phase (Ok _) area journal = (inr refl, refl)
 
 -- What was read, where it is the same.
 pub read_alike : (asked same : Result Asked LineRefusal) (demand : Result Asked LineRefusal) → asked ≡ same → IsReadAs asked demand → IsReadAs same demand
@@ -63,23 +63,23 @@ request_read asked demand (inl e) = e
 request_read asked demand (inr e) = absurd (cc)
 
 -- What is asked otherwise than by an event, a moment or `configure` is no command.
-no_command : (terms : Terms) (told : Bool) (folder : Option (List NamedText)) (stage : Stage) (asked : Asked) (area : ℕ) (journal : Content) → ((event : Event) → asked ≡ One event → ⊥)
-    → ((moment : ℕ) → asked ≡ AskedAt moment → ⊥) → (asked ≡ Configure → ⊥) → IsRoundOf terms told folder stage (Ok asked) area journal (Line NotACommand) stage
-no_command terms told folder stage (One event) area journal not_one not_at not_configure = absurd (not_one event refl)
-no_command terms told folder stage (AskedAt moment) area journal not_one not_at not_configure = absurd (not_at moment refl)
-no_command terms told folder stage Configure area journal not_one not_at not_configure = absurd (not_configure refl)
-no_command terms told folder stage _ area journal not_one not_at not_configure = (inl refl, refl)
+no_command : (terms : Terms) (told : Bool) (folder : Option (List NamedText)) (phase : Phase) (asked : Asked) (area : ℕ) (journal : Content) → ((event : Event) → asked ≡ One event → ⊥)
+    → ((moment : ℕ) → asked ≡ AskedAt moment → ⊥) → (asked ≡ Configure → ⊥) → IsRoundOf terms told folder phase (Ok asked) area journal (Line NotACommand) phase
+no_command terms told folder phase (One event) area journal not_one not_at not_configure = absurd (not_one event refl)
+no_command terms told folder phase (AskedAt moment) area journal not_one not_at not_configure = absurd (not_at moment refl)
+no_command terms told folder phase Configure area journal not_one not_at not_configure = absurd (not_configure refl)
+no_command terms told folder phase _ area journal not_one not_at not_configure = (inl refl, refl)
 
 -- A refused line is answered as it is defined.
-refused_round : (terms : Terms) (told : Bool) (folder : Option (List NamedText)) (stage : Stage) (refusal : LineRefusal) (demand : Result Asked LineRefusal) (area : ℕ) (journal : Content) → IsReadAs (Err refusal) demand
-    → IsRoundOf terms told folder stage demand area journal (reply_to refusal) stage
-refused_round terms told folder stage WantOfMemory demand area journal read = memory_lost terms told folder stage demand area journal
-refused_round terms told folder stage NotACommand demand area journal (inl e) = subst (λ (r : Result Asked LineRefusal). IsRoundOf terms told folder stage r area journal (Line NotACommand) stage) e (inl refl, refl)
-refused_round terms told folder stage NotACommand demand area journal (inr e) = absurd (cc)
-refused_round terms told folder stage (BadWord number) demand area journal (inl e) = subst (λ (r : Result Asked LineRefusal). IsRoundOf terms told folder stage r area journal (Line (BadWord number)) stage) e (inl refl, refl)
-refused_round terms told folder stage (BadWord number) demand area journal (inr e) = absurd (cc)
-refused_round terms told folder stage LineTooLong demand area journal (inl e) = subst (λ (r : Result Asked LineRefusal). IsRoundOf terms told folder stage r area journal (Line LineTooLong) stage) e (inl refl, refl)
-refused_round terms told folder stage LineTooLong demand area journal (inr e) = absurd (cc)
+refused_round : (terms : Terms) (told : Bool) (folder : Option (List NamedText)) (phase : Phase) (refusal : LineRefusal) (demand : Result Asked LineRefusal) (area : ℕ) (journal : Content) → IsReadAs (Err refusal) demand
+    → IsRoundOf terms told folder phase demand area journal (reply_to refusal) phase
+refused_round terms told folder phase WantOfMemory demand area journal read = memory_lost terms told folder phase demand area journal
+refused_round terms told folder phase NotACommand demand area journal (inl e) = subst (λ (r : Result Asked LineRefusal). IsRoundOf terms told folder phase r area journal (Line NotACommand) phase) e (inl refl, refl)
+refused_round terms told folder phase NotACommand demand area journal (inr e) = absurd (cc)
+refused_round terms told folder phase (BadWord number) demand area journal (inl e) = subst (λ (r : Result Asked LineRefusal). IsRoundOf terms told folder phase r area journal (Line (BadWord number)) phase) e (inl refl, refl)
+refused_round terms told folder phase (BadWord number) demand area journal (inr e) = absurd (cc)
+refused_round terms told folder phase LineTooLong demand area journal (inl e) = subst (λ (r : Result Asked LineRefusal). IsRoundOf terms told folder phase r area journal (Line LineTooLong) phase) e (inl refl, refl)
+refused_round terms told folder phase LineTooLong demand area journal (inr e) = absurd (cc)
 
 -- It tells no fault of the folder.
 refused_folder : (refusal : LineRefusal) (before after : ℕ) → before ≤ after → AreCounted before (folder_faults_of (reply_to refusal)) after
@@ -88,46 +88,46 @@ refused_folder (BadWord number) before after later = omega (arith, later)
 refused_folder LineTooLong before after later = omega (arith, later)
 refused_folder WantOfMemory before after later = omega (arith, later)
 
--- From a stage at which a session stands. `faults` and `faults'` are the folder's counts before and after, `clock` and `clock'` what
+-- From a phase at which a session stands. `faults` and `faults'` are the folder's counts before and after, `clock` and `clock'` what
 -- the clock tells.
-module _ (terms : Terms) {B P : Type 0} (told : Bool) (view : B → View) (engine : Engine B P) (own_moment : Option ℕ) (clock : Option (List ℕ)) (folder : Option (List NamedText)) (faults faults' : ℕ) (stage : Stage)
-    (stands : StandsAt terms told view engine own_moment clock stage) where
+module _ (terms : Terms) {B P : Type 0} (told : Bool) (view : B → View) (engine : Engine B P) (own_moment : Option ℕ) (clock : Option (List ℕ)) (folder : Option (List NamedText)) (faults faults' : ℕ) (phase : Phase)
+    (stands : StandsAt terms told view engine own_moment clock phase) where
   -- An event was served at the moment that was taken.
   pub served : (area : ℕ) (journal : Content) (event : Event) (now : ℕ) (clock' : Option (List ℕ)) (reply : Reply) (engine' : Engine B P) → Gives (moments_of own_moment clock) (moments_of own_moment clock') now
-      → (w' : World) × EventTurn terms told stage.world event now area journal reply w' × Moves terms told view engine engine' stage.world w'
-      → (stage' : Stage) × IsEvent terms told stage event area journal reply stage' × IsMoved terms told view engine engine' own_moment clock' stage stage'
+      → (w' : World) × EventTurn terms told phase.world event now area journal reply w' × Moves terms told view engine engine' phase.world w'
+      → (phase' : Phase) × IsEvent terms told phase event area journal reply phase' × IsMoved terms told view engine engine' own_moment clock' phase phase'
   served area journal event now clock' reply engine' gives turn = (
     record { world = turn.0; moments = moments_of own_moment clock' },
     (now, subst (λ (ms : Option (List ℕ)). Gives ms (moments_of own_moment clock') now) (sym stands.moments) gives, turn.1),
-    record { world = turn.2.stands; meanwhile = either_world terms told view engine engine' stage.world turn.0 event now area journal reply stands.world turn.1 turn.2; moments = refl },
+    record { world = turn.2.stands; meanwhile = either_world terms told view engine engine' phase.world turn.0 event now area journal reply stands.world turn.1 turn.2; moments = refl },
   )
 
   -- The round that a reply makes, where the session stands after it, and what the folder counted.
   abbrev pub Responds : Result Asked LineRefusal → ℕ → Content → Reply → Engine B P → Option ℕ → Option (List ℕ) → Type 0
-  Responds demand area journal reply engine' own_moment' clock' = (stage' : Stage) × IsRoundOf terms told folder stage demand area journal reply stage'
-      × IsMoved terms told view engine engine' own_moment' clock' stage stage' × AreCounted faults (folder_faults_of reply) faults'
+  Responds demand area journal reply engine' own_moment' clock' = (phase' : Phase) × IsRoundOf terms told folder phase demand area journal reply phase'
+      × IsMoved terms told view engine engine' own_moment' clock' phase phase' × AreCounted faults (folder_faults_of reply) faults'
 
   module _ (later : faults ≤ faults') where
     -- An event was answered by the engine.
     pub event_response : (area : ℕ) (journal : Content) (event : Event) (demand : Result Asked LineRefusal) (reply : Reply) (engine' : Engine B P) (clock' : Option (List ℕ)) → IsReadAs (Ok (One event)) demand
-        → (stage' : Stage) × IsEvent terms told stage event area journal reply stage' × IsMoved terms told view engine engine' own_moment clock' stage stage'
+        → (phase' : Phase) × IsEvent terms told phase event area journal reply phase' × IsMoved terms told view engine engine' own_moment clock' phase phase'
         → Responds demand area journal reply engine' own_moment clock'
     event_response area journal event demand reply engine' clock' read turn = (
       turn.0,
-      subst (λ (r : Result Asked LineRefusal). IsRoundOf terms told folder stage r area journal reply turn.0) (request_read (One event) demand read) (inr turn.1),
+      subst (λ (r : Result Asked LineRefusal). IsRoundOf terms told folder phase r area journal reply turn.0) (request_read (One event) demand read) (inr turn.1),
       turn.2,
-      event_folder terms told stage.world event turn.1.0 area journal reply turn.0.world faults faults' turn.1.2 later,
+      event_folder terms told phase.world event turn.1.0 area journal reply turn.0.world faults faults' turn.1.2 later,
     )
 
     -- So was the event of the texts that the folder gave.
     pub configured_response : (area : ℕ) (journal : Content) (texts : SiteTexts) (reply : Reply) (engine' : Engine B P) (clock' : Option (List ℕ)) → AreRead folder texts
-        → (stage' : Stage) × IsEvent terms told stage (ConfigureEvent texts) area journal reply stage' × IsMoved terms told view engine engine' own_moment clock' stage stage'
+        → (phase' : Phase) × IsEvent terms told phase (ConfigureEvent texts) area journal reply phase' × IsMoved terms told view engine engine' own_moment clock' phase phase'
         → Responds (Ok Configure) area journal reply engine' own_moment clock'
     configured_response area journal texts reply engine' clock' read turn = (
       turn.0,
       inr (texts, read, turn.1),
       turn.2,
-      event_folder terms told stage.world (ConfigureEvent texts) turn.1.0 area journal reply turn.0.world faults faults' turn.1.2 later,
+      event_folder terms told phase.world (ConfigureEvent texts) turn.1.0 area journal reply turn.0.world faults faults' turn.1.2 later,
     )
 
     -- `configure` was asked, which was answered so.
@@ -138,10 +138,10 @@ module _ (terms : Terms) {B P : Type 0} (told : Bool) (view : B → View) (engin
 
     module _ (sound : IsTrue told → IsSound (view engine.bank)) where
       -- The engine was not asked.
-      still : IsTrue told → LeavesOnly (view engine.bank) (view engine.bank) (λ c. ReadsAs terms stage.world c ⊎ ReadsAs terms stage.world c)
-      still t = started (view engine.bank) (λ c. ReadsAs terms stage.world c ⊎ ReadsAs terms stage.world c) (sound t) (λ c image. inl (stands.world.images t c image))
+      still : IsTrue told → LeavesOnly (view engine.bank) (view engine.bank) (λ c. ReadsAs terms phase.world c ⊎ ReadsAs terms phase.world c)
+      still t = started (view engine.bank) (λ c. ReadsAs terms phase.world c ⊎ ReadsAs terms phase.world c) (sound t) (λ c image. inl (stands.world.images t c image))
 
-      stays : IsMoved terms told view engine engine own_moment clock stage stage
+      stays : IsMoved terms told view engine engine own_moment clock phase phase
       stays = record { world = stands.world; meanwhile = still; moments = stands.moments }
 
       -- The session was given a moment of its own.
@@ -149,8 +149,8 @@ module _ (terms : Terms) {B P : Type 0} (told : Bool) (view : B → View) (engin
           → (now : ℕ) × IfSome (moments_of own_moment clock) (λ (moments : List ℕ). now ≡ next_moment moments) × (moved ≡ max moment now) → own_moment' ≡ Some moved
           → Responds demand area journal (At moved) engine own_moment' clock'
       at_response area journal moment moved demand own_moment' clock' read is is_own = (
-        record { world = stage.world; moments = own (max moment is.0) },
-        subst (λ (r : Result Asked LineRefusal). IsRoundOf terms told folder stage r area journal (At moved) (record { world = stage.world; moments = own (max moment is.0) })) (request_read (AskedAt moment) demand read)
+        record { world = phase.world; moments = own (max moment is.0) },
+        subst (λ (r : Result Asked LineRefusal). IsRoundOf terms told folder phase r area journal (At moved) (record { world = phase.world; moments = own (max moment is.0) })) (request_read (AskedAt moment) demand read)
             (inr (is.0, subst (λ (ms : Option (List ℕ)). IfSome ms (λ (moments : List ℕ). is.0 ≡ next_moment moments)) (sym stands.moments) is.1, ap (λ (n : ℕ). At n) is.2, refl)),
         record { world = stands.world; meanwhile = still; moments = ap (λ (n : ℕ). own n) (sym is.2) ∙ ap (λ (o : Option ℕ). moments_of o clock') (sym is_own) },
         omega (arith, later),
@@ -158,14 +158,14 @@ module _ (terms : Terms) {B P : Type 0} (told : Bool) (view : B → View) (engin
 
       -- No text could be read of the folder.
       pub unread_response : (area : ℕ) (journal : Content) (reply : Reply) → (reply ≡ FolderFault) ⊎ (reply ≡ NoMemory) → AreCounted faults (folder_faults_of reply) faults' → Responds (Ok Configure) area journal reply engine own_moment clock
-      unread_response area journal reply unread counted = (stage, inl (unread, refl), stays, counted)
+      unread_response area journal reply unread counted = (phase, inl (unread, refl), stays, counted)
 
       -- What was asked is no command.
       pub other_response : (area : ℕ) (journal : Content) (asked : Asked) (demand : Result Asked LineRefusal) → ((event : Event) → asked ≡ One event → ⊥) → ((moment : ℕ) → asked ≡ AskedAt moment → ⊥) → (asked ≡ Configure → ⊥)
           → IsReadAs (Ok asked) demand → Responds demand area journal (Line NotACommand) engine own_moment clock
       other_response area journal asked demand not_one not_at not_configure read = (
-        stage,
-        subst (λ (r : Result Asked LineRefusal). IsRoundOf terms told folder stage r area journal (Line NotACommand) stage) (request_read asked demand read) (no_command terms told folder stage asked area journal not_one not_at not_configure),
+        phase,
+        subst (λ (r : Result Asked LineRefusal). IsRoundOf terms told folder phase r area journal (Line NotACommand) phase) (request_read asked demand read) (no_command terms told folder phase asked area journal not_one not_at not_configure),
         stays,
         omega (arith, later),
       )
@@ -174,8 +174,8 @@ module _ (terms : Terms) {B P : Type 0} (told : Bool) (view : B → View) (engin
       pub refused_response : (area : ℕ) (journal : Content) (refusal : LineRefusal) (demand : Result Asked LineRefusal) (reply : Reply) → IsReadAs (Err refusal) demand → reply ≡ reply_to refusal
           → Responds demand area journal reply engine own_moment clock
       refused_response area journal refusal demand reply read is = (
-        stage,
-        subst (λ (r : Reply). IsRoundOf terms told folder stage demand area journal r stage) (sym is) (refused_round terms told folder stage refusal demand area journal read),
+        phase,
+        subst (λ (r : Reply). IsRoundOf terms told folder phase demand area journal r phase) (sym is) (refused_round terms told folder phase refusal demand area journal read),
         stays,
         subst (λ (r : Reply). AreCounted faults (folder_faults_of r) faults') (sym is) (refused_folder refusal faults faults' later),
       )

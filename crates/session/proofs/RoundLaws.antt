@@ -5,20 +5,20 @@ use Rattle.std.proofs.lemmas.Bool.{ne_eqb}
 use Rattle.base.specs.Causes.{AreCounted}
 use Rattle.outside.specs.declared.folder.NamedText.{NamedText}
 use Rattle.session.specs.Requests.{Request}
-use Rattle.session.specs.Rounds.{Stage, Round, IsRoundOf, GoOn, IsRun, stage_after, asked, output, AreInTime, mark_of, marks_from, cause_of, first_of, status_from, faults_of, faults_in, journal_faults_of, journal_faults_in, IsLastArea, folder_faults_of, folder_faults_in}
+use Rattle.session.specs.Rounds.{Phase, Round, IsRoundOf, GoOn, IsRun, phase_after, asked, output, AreInTime, mark_of, marks_from, cause_of, first_of, status_from, faults_of, faults_in, journal_faults_of, journal_faults_in, IsLastArea, folder_faults_of, folder_faults_in}
 use Rattle.session.specs.declared.kept.Mark.{Mark}
 use Rattle.site_history.specs.Terms.{Terms}
 
 -- A run goes on by a round from where it stands.
-pub run_more : (terms : Terms) (told : Bool) (folder : Option (List NamedText)) (stage : Stage) (rs : List Round) (r : Round) → IsRun terms told folder stage rs
-    → IsRoundOf terms told folder (stage_after stage rs) r.request.asked r.area r.journal r.reply r.after → IsRun terms told folder stage (rs ++ r ∷ [])
-run_more terms told folder stage [] r run turn = (turn, tt)
-run_more terms told folder stage (x ∷ rs) r run turn = (run.0, run_more terms told folder x.after rs r run.1 turn)
+pub run_more : (terms : Terms) (told : Bool) (folder : Option (List NamedText)) (phase : Phase) (rs : List Round) (r : Round) → IsRun terms told folder phase rs
+    → IsRoundOf terms told folder (phase_after phase rs) r.request.asked r.area r.journal r.reply r.after → IsRun terms told folder phase (rs ++ r ∷ [])
+run_more terms told folder phase [] r run turn = (turn, tt)
+run_more terms told folder phase (x ∷ rs) r run turn = (run.0, run_more terms told folder x.after rs r run.1 turn)
 
 -- It stands then where the round left it.
-pub after_more : (stage : Stage) (rs : List Round) (r : Round) → stage_after stage (rs ++ r ∷ []) ≡ r.after
-after_more stage [] r = refl
-after_more stage (x ∷ rs) r = after_more x.after rs r
+pub after_more : (phase : Phase) (rs : List Round) (r : Round) → phase_after phase (rs ++ r ∷ []) ≡ r.after
+after_more phase [] r = refl
+after_more phase (x ∷ rs) r = after_more x.after rs r
 
 -- What was asked, with the round's request behind it.
 pub asked_more : (rs : List Round) (r : Round) → asked (rs ++ r ∷ []) ≡ asked rs ++ r.request ∷ []
@@ -46,15 +46,15 @@ pub marks-length : (n : ℕ) (rs : List Round) → length (marks_from n rs) ≡ 
 marks-length n [] = refl
 marks-length n (x ∷ rs) = ap suc (marks-length (n + 1) rs)
 
--- The store's moments go on.
-pub in_time_more : (from mid to : ℕ) (rs : List Round) (r : Round) → AreInTime from rs mid → (mid ≤ r.moment) × (r.moment ≤ to) → AreInTime from (rs ++ r ∷ []) to
+-- The store's instants go on.
+pub in_time_more : (from mid to : ℕ) (rs : List Round) (r : Round) → AreInTime from rs mid → (mid ≤ r.instant) × (r.instant ≤ to) → AreInTime from (rs ++ r ∷ []) to
 in_time_more from mid to [] r h k = (omega (arith, h, k.0), k.1)
-in_time_more from mid to (x ∷ rs) r h k = (h.0, in_time_more x.moment mid to rs r h.1 k)
+in_time_more from mid to (x ∷ rs) r h k = (h.0, in_time_more x.instant mid to rs r h.1 k)
 
 -- They end no earlier than they begin.
 pub in_time_to : (from to : ℕ) (rs : List Round) → AreInTime from rs to → from ≤ to
 in_time_to from to [] h = h
-in_time_to from to (x ∷ rs) h = omega (arith, h.0, in_time_to x.moment to rs h.1)
+in_time_to from to (x ∷ rs) h = omega (arith, h.0, in_time_to x.instant to rs h.1)
 
 -- They may be counted from an earlier moment.
 pub earlier : (from from' to : ℕ) (rs : List Round) → from' ≤ from → AreInTime from rs to → AreInTime from' rs to

@@ -20,8 +20,8 @@ use Rattle.site_history.specs.Journals.{IsBadJournal}
 use Rattle.site_history.proofs.JournalLaws.{not_bad_journal}
 use Rattle.session.specs.Requests.{Request}
 use Rattle.session.specs.Asking.{ends_run, line_request, requests_of, asks_of}
-use Rattle.session.specs.Rounds.{Stage, Round, GoOn, IsRun, asked, output, cause_of, first_of, status_from, faults_in, folder_faults_in, is_as_defined, is_told, calm}
-use Rattle.session.specs.Machine.{AreTold, machine_run, output_of, texts_told}
+use Rattle.session.specs.Rounds.{Phase, Round, GoOn, IsRun, asked, output, cause_of, first_of, status_from, faults_in, folder_faults_in, is_as_defined, is_fixed, calm}
+use Rattle.session.specs.Machine.{AreResponses, machine_run, output_of, texts_told}
 use Rattle.desk.specs.Asks.{is_skipped, asked_of}
 use Rattle.input.specs.Lines.{RawLine, Kept, Long, raw_lines}
 use Rattle.session.specs.Session.{Outside, IsSession, Ends, status_of}
@@ -51,14 +51,14 @@ behind_calm x rs later n e (inr (inr m)) = inr (inr (ap (λ (k : ℕ). first_of 
 
 -- The status of a run that began with no reopening due: a fault of the store or of the folder, want of memory, or what ended
 -- the run.
-status_is : (terms : Terms) (told : Bool) (folder : Option (List NamedText)) (stage : Stage) (rs : List Round) (later : ℕ) → stage.world.due ≡ false → IsRun terms told folder stage rs
+status_is : (terms : Terms) (told : Bool) (folder : Option (List NamedText)) (phase : Phase) (rs : List Round) (later : ℕ) → phase.world.due ≡ false → IsRun terms told folder phase rs
     → StatusOf rs later (status_from rs later)
-status_is terms told folder stage [] later rest run = inl (refl, tt)
-status_is terms told folder stage (x ∷ rs) later rest run =
-    by_cause (round_cause terms told folder stage x.request.asked x.area x.journal x.reply x.after rest run.0) (λ h. status_is terms told folder x.after rs later h run.1)
+status_is terms told folder phase [] later rest run = inl (refl, tt)
+status_is terms told folder phase (x ∷ rs) later rest run =
+    by_cause (round_cause terms told folder phase x.request.asked x.area x.journal x.reply x.after rest run.0) (λ h. status_is terms told folder x.after rs later h run.1)
   where
     by_cause : CauseOf x.reply → (x.after.world.due ≡ false → StatusOf rs later (status_from rs later)) → StatusOf (x ∷ rs) later (first_of (cause_of x.reply) (status_from rs later))
-    by_cause (inl e) behind = behind_calm x rs later (status_from rs later) e (behind (calm_rests terms told folder stage x.request.asked x.area x.journal x.reply x.after rest run.0 (none_defined x.reply e)))
+    by_cause (inl e) behind = behind_calm x rs later (status_from rs later) e (behind (calm_rests terms told folder phase x.request.asked x.area x.journal x.reply x.after rest run.0 (none_defined x.reply e)))
     by_cause (inr (inl (e, f))) behind = inr (inl (ap (λ (k : ℕ). first_of k (status_from rs later)) e ∙ first_suc 2 (status_from rs later), omega (arith, f)))
     by_cause (inr (inr e)) behind = inr (inr (ap (λ (k : ℕ). first_of k (status_from rs later)) e ∙ first_suc 8 (status_from rs later)))
 
@@ -68,60 +68,60 @@ last_none [] r none = none.0
 last_none (x ∷ rs) r none = last_none rs r none.1
 
 -- whether folder and clock fix what is told to a request
-abbrev is_fixed : Option (List NamedText) → Option (List ℕ) → Request → Bool
-is_fixed folder moments request = is_told folder moments request.asked
+abbrev request_fixed : Option (List NamedText) → Option (List ℕ) → Request → Bool
+request_fixed folder moments request = is_fixed folder moments request.asked
 
 -- Such rounds are all calm, where folder and clock fix what the machine tells to them.
-all_calm : (folder : Option (List NamedText)) (moments : Option (List ℕ)) (rs : List Round) → NoCauses rs → IsTrue (list_all (is_fixed folder moments) (asked rs)) → calm folder moments rs ≡ rs
+all_calm : (folder : Option (List NamedText)) (moments : Option (List ℕ)) (rs : List Round) → NoCauses rs → IsTrue (list_all (request_fixed folder moments) (asked rs)) → calm folder moments rs ≡ rs
 all_calm folder moments [] none fixed = refl
 all_calm folder moments (x ∷ rs) none fixed =
-    let parts = and_parts (is_told folder moments x.request.asked) (list_all (is_fixed folder moments) (asked rs)) fixed in
-    ap (λ (b : Bool). cond b (x ∷ calm folder moments rs) []) (and_from (is_as_defined x.reply) (is_told folder moments x.request.asked) (none_defined x.reply none.0) parts.0)
+    let parts = and_parts (is_fixed folder moments x.request.asked) (list_all (request_fixed folder moments) (asked rs)) fixed in
+    ap (λ (b : Bool). cond b (x ∷ calm folder moments rs) []) (and_from (is_as_defined x.reply) (is_fixed folder moments x.request.asked) (none_defined x.reply none.0) parts.0)
     ∙ ap (λ (l : List Round). x ∷ l) (all_calm folder moments rs none.1 parts.1)
 
 no_front : (xs ys : List ℕ) → xs ++ ys ≡ [] → xs ≡ []
 no_front [] ys e = refl
 no_front (x ∷ xs) ys e = absurd (cc)
 
-module _ (terms : Terms) (Asks : Items Request) (Stands : Stage → Type 0) (told : Bool) (budget : ℕ) (store : View) (old new : Outside) (first : Stage) (rests : first.world.due ≡ false) (marks : List Mark) (status : ℕ)
+module _ (terms : Terms) (Asks : Items Request) (Stands : Phase → Type 0) (told : Bool) (budget : ℕ) (store : View) (old new : Outside) (first : Phase) (rests : first.world.due ≡ false) (marks : List Mark) (status : ℕ)
     (s : IsSession terms Asks Stands told budget store old new first marks status) where
   abbrev all_rounds : List Round
-  all_rounds = s.told ++ s.untold
+  all_rounds = s.answered ++ s.unanswered
 
   session_kind : StatusOf all_rounds (status_of s.ending) status
   session_kind = subst (λ (n : ℕ). StatusOf all_rounds (status_of s.ending) n) (sym s.first_cause) (status_is terms told old.folder first all_rounds (status_of s.ending) rests s.run)
 
   -- All rounds are as the machine tells them, where they are calm.
-  all_as_told : calm old.folder first.moments all_rounds ≡ all_rounds → AreTold told all_rounds (machine_run terms (texts_told old.folder) first (asked all_rounds))
+  all_as_told : calm old.folder first.moments all_rounds ≡ all_rounds → AreResponses told all_rounds (machine_run terms (texts_told old.folder) first (asked all_rounds))
   all_as_told same =
       let front : take (length (calm old.folder first.moments all_rounds)) (Asks s.read s.met_end) ≡ asked all_rounds =
       ap (λ (l : List Request). take (length (calm old.folder first.moments all_rounds)) l) (sym s.asks)
       ∙ ap (λ (n : ℕ). take n (asked all_rounds ++ s.unasked)) (ap length same ∙ sym (asked-length all_rounds)) ∙ take-append_seam (asked all_rounds) s.unasked in
-      subst (λ (l : List Round). AreTold told l (machine_run terms (texts_told old.folder) first (asked all_rounds))) same
-      (subst (λ (l : List Request). AreTold told (calm old.folder first.moments all_rounds) (machine_run terms (texts_told old.folder) first l)) front s.fixed)
+      subst (λ (l : List Round). AreResponses told l (machine_run terms (texts_told old.folder) first (asked all_rounds))) same
+      (subst (λ (l : List Request). AreResponses told (calm old.folder first.moments all_rounds) (machine_run terms (texts_told old.folder) first l)) front s.fixed)
 
   -- what was written is the machine's output for all that was asked
   abbrev pub IsOutput : Type 0
-  IsOutput = IsTrue (list_all (λ (request : Request). is_told old.folder first.moments request.asked) (asked all_rounds)) → Appends old.written new.written (output_of terms (texts_told old.folder) first (Asks s.read s.met_end))
+  IsOutput = IsTrue (list_all (λ (request : Request). is_fixed old.folder first.moments request.asked) (asked all_rounds)) → Appends old.written new.written (output_of terms (texts_told old.folder) first (Asks s.read s.met_end))
 
   -- nothing was cut off
-  uncut : s.untold ≡ [] → output s.told ++ s.cut ≡ output all_rounds
-  uncut none = ap (λ (l : List ℕ). output s.told ++ l) (no_front s.cut s.lost (s.cut_off ∙ ap output none)) ∙ append-nil (output s.told)
-      ∙ ap output (sym (append-nil s.told) ∙ ap (λ (l : List Round). s.told ++ l) (sym none))
+  uncut : s.unanswered ≡ [] → output s.answered ++ s.cut ≡ output all_rounds
+  uncut none = ap (λ (l : List ℕ). output s.answered ++ l) (no_front s.cut s.lost (s.cut_off ∙ ap output none)) ∙ append-nil (output s.answered)
+      ∙ ap output (sym (append-nil s.answered) ∙ ap (λ (l : List Round). s.answered ++ l) (sym none))
 
-  output_by : IsTrue told → NoCauses all_rounds → (ending : Ending) → status_of ending ≡ 0 → Ends budget old new s.read s.beyond s.met_end s.told s.untold s.cut s.lost s.unasked ending → IsOutput
+  output_by : IsTrue told → NoCauses all_rounds → (ending : Ending) → status_of ending ≡ 0 → Ends budget old new s.read s.beyond s.met_end s.answered s.unanswered s.cut s.lost s.unasked ending → IsOutput
   output_by tells none Ended e ends fixed =
-      let all_told : s.told ≡ all_rounds = sym (append-nil s.told) ∙ ap (λ (l : List Round). s.told ++ l) (sym ends.4) in
+      let all_told : s.answered ≡ all_rounds = sym (append-nil s.answered) ∙ ap (λ (l : List Round). s.answered ++ l) (sym ends.4) in
       let asks : asked all_rounds ≡ Asks s.read s.met_end = sym (append-nil (asked all_rounds)) ∙ ap (λ (l : List Request). asked all_rounds ++ l) (sym ends.3) ∙ s.asks in
       subst (λ (l : List ℕ). Appends old.written new.written l)
       (uncut ends.4 ∙ output_told terms (texts_told old.folder) told first all_rounds tells (subst GoOn all_told ends.0) (all_as_told (all_calm old.folder first.moments all_rounds none fixed))
       ∙ ap (λ (l : List Request). output_of terms (texts_told old.folder) first l) asks) s.written
   output_by tells none Closed e ends fixed =
-      let all : all_rounds ≡ ends.0.0 ++ ends.0.1 ∷ [] = ap (λ (l : List Round). s.told ++ l) ends.2 ∙ append-nil s.told ∙ ends.0.2 in
+      let all : all_rounds ≡ ends.0.0 ++ ends.0.1 ∷ [] = ap (λ (l : List Round). s.answered ++ l) ends.2 ∙ append-nil s.answered ∙ ends.0.2 in
       subst (λ (l : List ℕ). Appends old.written new.written l)
       (uncut ends.2 ∙ ap output all
       ∙ output_closed terms (texts_told old.folder) told first ends.0.0 ends.0.1 s.unasked tells ends.0.3 ends.0.4
-      (subst (λ (l : List Round). AreTold told l (machine_run terms (texts_told old.folder) first (asked l))) all (all_as_told (all_calm old.folder first.moments all_rounds none fixed)))
+      (subst (λ (l : List Round). AreResponses told l (machine_run terms (texts_told old.folder) first (asked l))) all (all_as_told (all_calm old.folder first.moments all_rounds none fixed)))
       ∙ ap (λ (l : List Round). output_of terms (texts_told old.folder) first (asked l ++ s.unasked)) (sym all) ∙ ap (λ (l : List Request). output_of terms (texts_told old.folder) first l) s.asks) s.written
   output_by tells none SourceFault e ends fixed = absurd (omega (arith, e))
   output_by tells none SinkFault e ends fixed = absurd (omega (arith, e))
@@ -187,35 +187,35 @@ taken_all None b read P c e p = tt
 taken_all (Some xs) None read P c e p = absurd c
 taken_all (Some xs) (Some ys) read P c e p = subst P (sym (c ∙ ap (λ (l : List ℕ). read ++ l) e ∙ append-nil read)) p
 
-module _ (terms : Terms) (Stands : Stage → Type 0) (told : Bool) (budget : ℕ) (store : View) (old new : Outside) (first : Stage) (rests : first.world.due ≡ false) (marks : List Mark) (status : ℕ)
+module _ (terms : Terms) (Stands : Phase → Type 0) (told : Bool) (budget : ℕ) (store : View) (old new : Outside) (first : Phase) (rests : first.world.due ≡ false) (marks : List Mark) (status : ℕ)
     (s : IsSession terms asks_of Stands told budget store old new first marks status) where
-  kind : StatusOf (s.told ++ s.untold) (status_of s.ending) status
-  kind = subst (λ (n : ℕ). StatusOf (s.told ++ s.untold) (status_of s.ending) n) (sym s.first_cause) (status_is terms told old.folder first (s.told ++ s.untold) (status_of s.ending) rests s.run)
+  kind : StatusOf (s.answered ++ s.unanswered) (status_of s.ending) status
+  kind = subst (λ (n : ℕ). StatusOf (s.answered ++ s.unanswered) (status_of s.ending) n) (sym s.first_cause) (status_is terms told old.folder first (s.answered ++ s.unanswered) (status_of s.ending) rests s.run)
 
   abbrev EndsAs : Ending → Type 0
-  EndsAs ending = Ends budget old new s.read s.beyond s.met_end s.told s.untold s.cut s.lost s.unasked ending
+  EndsAs ending = Ends budget old new s.read s.beyond s.met_end s.answered s.unanswered s.cut s.lost s.unasked ending
 
   abbrev pub Rises : Type 0
   Rises = Rose old.bank_faults new.bank_faults ⊎ Rose old.folder_faults new.folder_faults
 
-  rises : 0 < faults_in (s.told ++ s.untold) + folder_faults_in (s.told ++ s.untold) → Rises
-  rises some = rose_either (faults_in (s.told ++ s.untold)) (folder_faults_in (s.told ++ s.untold)) old.bank_faults new.bank_faults old.folder_faults new.folder_faults some s.counted s.folder_counted
+  rises : 0 < faults_in (s.answered ++ s.unanswered) + folder_faults_in (s.answered ++ s.unanswered) → Rises
+  rises some = rose_either (faults_in (s.answered ++ s.unanswered)) (folder_faults_in (s.answered ++ s.unanswered)) old.bank_faults new.bank_faults old.folder_faults new.folder_faults some s.counted s.folder_counted
 
   -- An answer that ends the run is a cause.
-  never_closed : EndsAs Ending.Closed → NoCauses (s.told ++ s.untold) → ⊥
+  never_closed : EndsAs Ending.Closed → NoCauses (s.answered ++ s.unanswered) → ⊥
   never_closed e none =
-      let all : s.told ++ s.untold ≡ e.0.0 ++ e.0.1 ∷ [] = ap (λ (l : List Round). s.told ++ l) e.2 ∙ append-nil s.told ∙ e.0.2 in
-      let lines : AreLines (asked (s.told ++ s.untold)) = front_lines (asked (s.told ++ s.untold)) s.unasked (subst AreLines (sym s.asks) (raw_lines_lines (raw_lines s.read s.met_end))) in
+      let all : s.answered ++ s.unanswered ≡ e.0.0 ++ e.0.1 ∷ [] = ap (λ (l : List Round). s.answered ++ l) e.2 ∙ append-nil s.answered ∙ e.0.2 in
+      let lines : AreLines (asked (s.answered ++ s.unanswered)) = front_lines (asked (s.answered ++ s.unanswered)) s.unasked (subst AreLines (sym s.asks) (raw_lines_lines (raw_lines s.read s.met_end))) in
       let closes : e.0.1.request.closes ≡ ends_run = last_line e.0.0 e.0.1 (subst (λ (l : List Round). AreLines (asked l)) all lines) in
       let ends : ends_run e.0.1.reply ≡ true = sym (ap (λ (f : Reply → Bool). f e.0.1.reply) closes) ∙ e.0.4 in
       omega (arith, last_none e.0.0 e.0.1 (subst NoCauses all none), last_is_cause e.0.1.reply ends)
 
   abbrev pub Cause : Type 0
-  Cause = ((status ≡ 0) × EndsAs Ending.Ended × NoCauses (s.told ++ s.untold))
+  Cause = ((status ≡ 0) × EndsAs Ending.Ended × NoCauses (s.answered ++ s.unanswered))
       ⊎ (((status ≡ 4) × EndsAs Ending.SourceFault) ⊎ (((status ≡ 5) × EndsAs Ending.SinkFault) ⊎ (((status ≡ 7) × EndsAs Ending.OverBudget)
       ⊎ (((status ≡ 3) × Rises) ⊎ (status ≡ 9)))))
 
-  of_ending : (ending : Ending) → EndsAs ending → status ≡ status_of ending → NoCauses (s.told ++ s.untold) → Cause
+  of_ending : (ending : Ending) → EndsAs ending → status ≡ status_of ending → NoCauses (s.answered ++ s.unanswered) → Cause
   of_ending Ending.Ended e is none = inl (is, e, none)
   of_ending Ending.Closed e is none = absurd (never_closed e none)
   of_ending Ending.SourceFault e is none = inr (inl (is, e))
@@ -237,36 +237,36 @@ module _ (terms : Terms) (Stands : Stage → Type 0) (told : Bool) (budget : ℕ
 
   -- what was written is the output of all of the input, where folder and clock fix it
   abbrev pub WroteAll : List ℕ → Type 0
-  WroteAll bytes = IsTrue (list_all (is_fixed old.folder first.moments) (asks_of bytes true)) → Appends old.written new.written (output_of terms (texts_told old.folder) first (asks_of bytes true))
+  WroteAll bytes = IsTrue (list_all (request_fixed old.folder first.moments) (asks_of bytes true)) → Appends old.written new.written (output_of terms (texts_told old.folder) first (asks_of bytes true))
 
   -- the rounds that are fixed
   abbrev fixed_rounds : List Round
-  fixed_rounds = calm old.folder first.moments (s.told ++ s.untold)
+  fixed_rounds = calm old.folder first.moments (s.answered ++ s.unanswered)
 
   -- With status 0 the output is that of all that was read, where the store tells its content.
-  all_written : IsTrue told → EndsAs Ending.Ended → NoCauses (s.told ++ s.untold) → IfSome old.left (λ bytes. (length bytes ≤ budget) × WroteAll bytes)
+  all_written : IsTrue told → EndsAs Ending.Ended → NoCauses (s.answered ++ s.unanswered) → IfSome old.left (λ bytes. (length bytes ≤ budget) × WroteAll bytes)
   all_written tells e none = all_read e _ (s.within, λ fixed. subst (λ (l : List ℕ). Appends old.written new.written l) (out (calm_all fixed)) s.written)
     where
-      asks : asks_of s.read true ≡ asked (s.told ++ s.untold)
-      asks = ap (λ (b : Bool). asks_of s.read b) (sym e.2) ∙ sym s.asks ∙ ap (λ (l : List Request). asked (s.told ++ s.untold) ++ l) e.3 ∙ append-nil (asked (s.told ++ s.untold))
+      asks : asks_of s.read true ≡ asked (s.answered ++ s.unanswered)
+      asks = ap (λ (b : Bool). asks_of s.read b) (sym e.2) ∙ sym s.asks ∙ ap (λ (l : List Request). asked (s.answered ++ s.unanswered) ++ l) e.3 ∙ append-nil (asked (s.answered ++ s.unanswered))
 
-      all_told : s.told ≡ s.told ++ s.untold
-      all_told = sym (append-nil s.told) ∙ ap (λ (l : List Round). s.told ++ l) (sym e.4)
+      all_told : s.answered ≡ s.answered ++ s.unanswered
+      all_told = sym (append-nil s.answered) ∙ ap (λ (l : List Round). s.answered ++ l) (sym e.4)
 
-      calm_all : IsTrue (list_all (is_fixed old.folder first.moments) (asks_of s.read true)) → fixed_rounds ≡ s.told ++ s.untold
-      calm_all fixed = all_calm old.folder first.moments (s.told ++ s.untold) none (subst (λ (l : List Request). IsTrue (list_all (is_fixed old.folder first.moments) l)) asks fixed)
+      calm_all : IsTrue (list_all (request_fixed old.folder first.moments) (asks_of s.read true)) → fixed_rounds ≡ s.answered ++ s.unanswered
+      calm_all fixed = all_calm old.folder first.moments (s.answered ++ s.unanswered) none (subst (λ (l : List Request). IsTrue (list_all (request_fixed old.folder first.moments) l)) asks fixed)
 
-      front_all : fixed_rounds ≡ s.told ++ s.untold → take (length fixed_rounds) (asks_of s.read s.met_end) ≡ asks_of s.read true
+      front_all : fixed_rounds ≡ s.answered ++ s.unanswered → take (length fixed_rounds) (asks_of s.read s.met_end) ≡ asks_of s.read true
       front_all calm_same = ap (λ (b : Bool). take (length fixed_rounds) (asks_of s.read b)) e.2
-          ∙ take_all (length fixed_rounds) (asks_of s.read true) (omega (arith, ap length asks, asked-length (s.told ++ s.untold), ap length calm_same))
+          ∙ take_all (length fixed_rounds) (asks_of s.read true) (omega (arith, ap length asks, asked-length (s.answered ++ s.unanswered), ap length calm_same))
 
-      as_told : fixed_rounds ≡ s.told ++ s.untold → AreTold told (s.told ++ s.untold) (machine_run terms (texts_told old.folder) first (asked (s.told ++ s.untold)))
-      as_told calm_same = subst (λ (l : List Round). AreTold told l (machine_run terms (texts_told old.folder) first (asked (s.told ++ s.untold)))) calm_same
-          (subst (λ (l : List Request). AreTold told fixed_rounds (machine_run terms (texts_told old.folder) first l)) (front_all calm_same ∙ asks) s.fixed)
+      as_told : fixed_rounds ≡ s.answered ++ s.unanswered → AreResponses told (s.answered ++ s.unanswered) (machine_run terms (texts_told old.folder) first (asked (s.answered ++ s.unanswered)))
+      as_told calm_same = subst (λ (l : List Round). AreResponses told l (machine_run terms (texts_told old.folder) first (asked (s.answered ++ s.unanswered)))) calm_same
+          (subst (λ (l : List Request). AreResponses told fixed_rounds (machine_run terms (texts_told old.folder) first l)) (front_all calm_same ∙ asks) s.fixed)
 
-      out : fixed_rounds ≡ s.told ++ s.untold → output s.told ++ s.cut ≡ output_of terms (texts_told old.folder) first (asks_of s.read true)
-      out calm_same = ap (λ (l : List ℕ). output s.told ++ l) (no_front s.cut s.lost (s.cut_off ∙ ap output e.4)) ∙ append-nil (output s.told) ∙ ap output all_told
-          ∙ output_told terms (texts_told old.folder) told first (s.told ++ s.untold) tells (subst GoOn all_told e.0) (as_told calm_same)
+      out : fixed_rounds ≡ s.answered ++ s.unanswered → output s.answered ++ s.cut ≡ output_of terms (texts_told old.folder) first (asks_of s.read true)
+      out calm_same = ap (λ (l : List ℕ). output s.answered ++ l) (no_front s.cut s.lost (s.cut_off ∙ ap output e.4)) ∙ append-nil (output s.answered) ∙ ap output all_told
+          ∙ output_told terms (texts_told old.folder) told first (s.answered ++ s.unanswered) tells (subst GoOn all_told e.0) (as_told calm_same)
           ∙ ap (λ (l : List Request). output_of terms (texts_told old.folder) first l) (sym asks)
 
   pub whole_output : IsTrue told → status ≡ 0 → IfSome old.left (λ bytes. (length bytes ≤ budget) × WroteAll bytes)

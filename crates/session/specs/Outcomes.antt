@@ -16,7 +16,7 @@ use Rattle.site_history.specs.Images.{IsSettled, IsSettledAs}
 use Rattle.site_history.specs.Journals.{IsBadJournal}
 use Rattle.input.specs.Reading.{Items}
 use Rattle.session.specs.Asking.{asks_of}
-use Rattle.session.specs.Rounds.{Stage, stage_after, asked, own, is_told}
+use Rattle.session.specs.Rounds.{Phase, phase_after, asked, own, is_fixed}
 use Rattle.session.specs.Requests.{Request}
 use Rattle.session.specs.Machine.{output_of, texts_told}
 use Rattle.session.specs.Kept.{IsOpening, AreHeld}
@@ -32,8 +32,8 @@ abbrev pub run_terms : (List ℕ → List ℕ → Bool) → Terms
 run_terms finds = record { size = journal_bytes; finds = finds }
 
 -- a run of lines in a world begins at the clock's moment, which is its own until `at` moves it on
-abbrev pub stage_of : World → Stage
-stage_of w = record { world = w; moments = own w.clock }
+abbrev pub phase_of : World → Phase
+phase_of w = record { world = w; moments = own w.clock }
 
 -- why nothing was asked: a fault of the store, want of memory, or a bad journal, which is told with its place
 abbrev pub Refusal : Terms → Outside → Outside → Bool → Content → ℕ → Type 0
@@ -56,36 +56,36 @@ pub record IsRefused (terms : Terms) (tells : Bool) (entry store : View) (old ne
 
 -- The store was opened, and a session followed. At its end the store is settled for the last world: for its history, or for
 -- that with the step that is owed. `Asks` is what a text asks, and `begins` where a session in a world begins.
-pub record IsAnswered (terms : Terms) (Asks : Items Request) (begins : World → Stage) (tells : Bool) (budget : ℕ) (entry store : View) (old new : Outside) (before : List HistoryStep) (marks : List Mark) (status : ℕ) : Type 0 where
+pub record IsAnswered (terms : Terms) (Asks : Items Request) (begins : World → Phase) (tells : Bool) (budget : ℕ) (entry store : View) (old new : Outside) (before : List HistoryStep) (marks : List Mark) (status : ℕ) : Type 0 where
   -- the world that the store was opened with
   pub found : World
   pub is_found : IsFound terms tells before found
-  -- the moment at which it was open
+  -- the instant at which it was open
   pub opened : ℕ
   pub opening : IsTrue tells → IsOpening entry store opened
-  pub session : IsSession terms Asks (λ stage. IsTrue tells → IsSettledAs terms store stage.world) tells budget store (record old { moment = opened }) new (begins found) marks status
+  pub session : IsSession terms Asks (λ phase. IsTrue tells → IsSettledAs terms store phase.world) tells budget store (record old { instant = opened }) new (begins found) marks status
   -- a step is owed only after a fault of the journal
-  pub rests : (Rose old.journal_faults new.journal_faults → ⊥) → (stage_after (begins found) (session.told ++ session.untold)).world.owed ≡ None
+  pub rests : (Rose old.journal_faults new.journal_faults → ⊥) → (phase_after (begins found) (session.answered ++ session.unanswered)).world.owed ≡ None
   -- each acknowledged step is held by whatever a crash left since its mark
-  pub acknowledged : IsTrue tells → AreHeld terms store (stage_after (begins found) (session.told ++ session.untold)).world.history marks
+  pub acknowledged : IsTrue tells → AreHeld terms store (phase_after (begins found) (session.answered ++ session.unanswered)).world.history marks
   -- With status 0 what was written is the machine's output for what was asked, up to an answer that ended the session. That is
   -- fixed but where `configure` was asked and the folder tells nothing, or an event and a clock tells nothing.
-  pub output : IsTrue tells → status ≡ 0 → IsTrue (list_all (λ (request : Request). is_told old.folder (begins found).moments request.asked) (asked (session.told ++ session.untold)))
+  pub output : IsTrue tells → status ≡ 0 → IsTrue (list_all (λ (request : Request). is_fixed old.folder (begins found).moments request.asked) (asked (session.answered ++ session.unanswered)))
       → Appends old.written new.written (output_of terms (texts_told old.folder) (begins found) (Asks session.read session.met_end))
 
 -- Of a run of lines in this world: with status 0 what was written is the machine's output for all that was read. That is
 -- fixed but where `configure` was asked and the folder tells nothing.
 abbrev pub WritesWhole : Terms → Bool → ℕ → Outside → Outside → World → ℕ → Type 0
 WritesWhole terms tells budget old new found status = IsTrue tells → status ≡ 0 → IfSome old.left (λ bytes. (length bytes ≤ budget)
-    × (IsTrue (list_all (λ (request : Request). is_told old.folder (stage_of found).moments request.asked) (asks_of bytes true))
-    → Appends old.written new.written (output_of terms (texts_told old.folder) (stage_of found) (asks_of bytes true))))
+    × (IsTrue (list_all (λ (request : Request). is_fixed old.folder (phase_of found).moments request.asked) (asks_of bytes true))
+    → Appends old.written new.written (output_of terms (texts_told old.folder) (phase_of found) (asks_of bytes true))))
 
 -- What a call does that answers lines; `tells` is whether the store tells its content. Where `told` that is made use of: the store
 -- was then settled for this history before the call. It was opened, and a session followed; or it was refused, and is as settled as
 -- before.
 abbrev pub IsOutcome : Terms → Bool → Bool → ℕ → View → View → Outside → Outside → List HistoryStep → List Mark → ℕ → Type 0
 IsOutcome terms told tells budget entry store old new before marks status =
-    ((answered : IsAnswered terms asks_of stage_of told budget entry store old new before marks status) × WritesWhole terms told budget old new answered.found status)
+    ((answered : IsAnswered terms asks_of phase_of told budget entry store old new before marks status) × WritesWhole terms told budget old new answered.found status)
     ⊎ (IsRefused terms tells entry store old new marks status × (IsTrue told → IsSettled terms store before))
 
 -- The causes of a status, over any store, and what the statuses 0 and 7 mean. `journal` is what stands in the journal's area.

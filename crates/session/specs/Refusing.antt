@@ -13,7 +13,7 @@ status_of_shut NoMemory = 9
 status_of_shut (BadJournal place) = 2
 
 -- a bad journal is told by its line, which is cut off where the sink fails
-abbrev pub TellsRefusal : Option (List ℕ) → Option (List ℕ) → ℕ → ℕ → ShutCause → Type 0
-TellsRefusal written written' faults faults' BankFault = Appends written written' []
-TellsRefusal written written' faults faults' NoMemory = Appends written written' []
-TellsRefusal written written' faults faults' (BadJournal place) = IsWritten written written' faults faults' (text_of (Reply.BadJournal place))
+abbrev pub WritesRefusal : Option (List ℕ) → Option (List ℕ) → ℕ → ℕ → ShutCause → Type 0
+WritesRefusal written written' faults faults' BankFault = Appends written written' []
+WritesRefusal written written' faults faults' NoMemory = Appends written written' []
+WritesRefusal written written' faults faults' (BadJournal place) = IsWritten written written' faults faults' (text_of (Reply.BadJournal place))

@@ -22,7 +22,7 @@ use Rattle.session.specs.declared.kept.Mark.{Mark}
 
 -- Where a session stands: the world, and the moments to come, where they are told. Each event takes the next one, and the last
 -- one is given again.
-pub record Stage : Type 0 where
+pub record Phase : Type 0 where
   pub world : World
   pub moments : Option (List ℕ)
 
@@ -39,49 +39,49 @@ moments_of None moments = moments
 pub record Round : Type 0 where
   pub request : Request
   pub reply : Reply
-  pub after : Stage
+  pub after : Phase
   -- the area of the store's last fault after the round
   pub area : ℕ
   -- what the journal's area read when the round began
   pub journal : Content
-  -- the store's moment after the round
-  pub moment : ℕ
+  -- the store's instant after the round
+  pub instant : ℕ
 
 -- nothing was asked of the machine: this is answered, or want of memory, and all stays
-abbrev pub Answers : Reply → Stage → Reply → Stage → Type 0
-Answers defined stage reply stage' = ((reply ≡ defined) ⊎ (reply ≡ NoMemory)) × (stage' ≡ stage)
+abbrev pub Answers : Reply → Phase → Reply → Phase → Type 0
+Answers defined phase reply phase' = ((reply ≡ defined) ⊎ (reply ≡ NoMemory)) × (phase' ≡ phase)
 
 -- an event of the machine, at the next moment
-abbrev pub IsEvent : Terms → Bool → Stage → Event → ℕ → Content → Reply → Stage → Type 0
-IsEvent terms told stage event area journal reply stage' =
-    (moment : ℕ) × Gives stage.moments stage'.moments moment × EventTurn terms told stage.world event moment area journal reply stage'.world
+abbrev pub IsEvent : Terms → Bool → Phase → Event → ℕ → Content → Reply → Phase → Type 0
+IsEvent terms told phase event area journal reply phase' =
+    (moment : ℕ) × Gives phase.moments phase'.moments moment × EventTurn terms told phase.world event moment area journal reply phase'.world
 
 -- The session has a moment of its own from now on: this one, or the next one that was to come, whichever is later.
-abbrev pub IsMovedTo : ℕ → Stage → Reply → Stage → Type 0
-IsMovedTo moment stage reply stage' = (now : ℕ) × IfSome stage.moments (λ moments. now ≡ next_moment moments)
-    × (reply ≡ At (max moment now)) × (stage' ≡ record { world = stage.world; moments = own (max moment now) })
+abbrev pub IsMovedTo : ℕ → Phase → Reply → Phase → Type 0
+IsMovedTo moment phase reply phase' = (now : ℕ) × IfSome phase.moments (λ moments. now ≡ next_moment moments)
+    × (reply ≡ At (max moment now)) × (phase' ≡ record { world = phase.world; moments = own (max moment now) })
 
--- One round from a stage, on these terms; `told` is whether the store tells its content, `folder` what the folder
+-- One round from a phase, on these terms; `told` is whether the store tells its content, `folder` what the folder
 -- tells, `area` that of the store's last fault, and `journal` what the journal's area read when the round began. An event is one
 -- of the machine. `at` gives the session a moment of its own. `configure` is the event of the texts that were read of the folder;
 -- where they could not be read, all stays. Or no memory was found to read the request. What is asked otherwise is no command.
-abbrev pub IsRoundOf : Terms → Bool → Option (List NamedText) → Stage → Result Asked LineRefusal → ℕ → Content → Reply → Stage → Type 0
-IsRoundOf terms told folder stage (Err refusal) area journal reply stage' = Answers (Line refusal) stage reply stage'
-IsRoundOf terms told folder stage (Ok (One event)) area journal reply stage' = ((reply ≡ NoMemory) × (stage' ≡ stage)) ⊎ IsEvent terms told stage event area journal reply stage'
-IsRoundOf terms told folder stage (Ok (AskedAt moment)) area journal reply stage' = ((reply ≡ NoMemory) × (stage' ≡ stage)) ⊎ IsMovedTo moment stage reply stage'
-IsRoundOf terms told folder stage (Ok Configure) area journal reply stage' = (((reply ≡ FolderFault) ⊎ (reply ≡ NoMemory)) × (stage' ≡ stage))
-    ⊎ ((texts : SiteTexts) × AreRead folder texts × IsEvent terms told stage (ConfigureEvent texts) area journal reply stage')
-IsRoundOf terms told folder stage (Ok _) area journal reply stage' = Answers (Line NotACommand) stage reply stage'
+abbrev pub IsRoundOf : Terms → Bool → Option (List NamedText) → Phase → Result Asked LineRefusal → ℕ → Content → Reply → Phase → Type 0
+IsRoundOf terms told folder phase (Err refusal) area journal reply phase' = Answers (Line refusal) phase reply phase'
+IsRoundOf terms told folder phase (Ok (One event)) area journal reply phase' = ((reply ≡ NoMemory) × (phase' ≡ phase)) ⊎ IsEvent terms told phase event area journal reply phase'
+IsRoundOf terms told folder phase (Ok (AskedAt moment)) area journal reply phase' = ((reply ≡ NoMemory) × (phase' ≡ phase)) ⊎ IsMovedTo moment phase reply phase'
+IsRoundOf terms told folder phase (Ok Configure) area journal reply phase' = (((reply ≡ FolderFault) ⊎ (reply ≡ NoMemory)) × (phase' ≡ phase))
+    ⊎ ((texts : SiteTexts) × AreRead folder texts × IsEvent terms told phase (ConfigureEvent texts) area journal reply phase')
+IsRoundOf terms told folder phase (Ok _) area journal reply phase' = Answers (Line NotACommand) phase reply phase'
 
 -- each round goes on from where the one before it stopped
-abbrev pub IsRun : Terms → Bool → Option (List NamedText) → Stage → List Round → Type 0
-IsRun terms told folder stage [] = Unit {0}
-IsRun terms told folder stage (round ∷ rounds) =
-    IsRoundOf terms told folder stage round.request.asked round.area round.journal round.reply round.after × IsRun terms told folder round.after rounds
+abbrev pub IsRun : Terms → Bool → Option (List NamedText) → Phase → List Round → Type 0
+IsRun terms told folder phase [] = Unit {0}
+IsRun terms told folder phase (round ∷ rounds) =
+    IsRoundOf terms told folder phase round.request.asked round.area round.journal round.reply round.after × IsRun terms told folder round.after rounds
 
-abbrev pub stage_after : Stage → List Round → Stage
-stage_after stage [] = stage
-stage_after stage (round ∷ rounds) = stage_after round.after rounds
+abbrev pub phase_after : Phase → List Round → Phase
+phase_after phase [] = phase
+phase_after phase (round ∷ rounds) = phase_after round.after rounds
 
 abbrev pub asked : List Round → List Request
 asked rounds = map (λ (round : Round). round.request) rounds
@@ -90,14 +90,14 @@ asked rounds = map (λ (round : Round). round.request) rounds
 abbrev pub output : List Round → List ℕ
 output rounds = flat_map (λ (round : Round). round.request.text round.reply) rounds
 
--- the store's moments never go back
+-- the store's instants never go back
 abbrev pub AreInTime : ℕ → List Round → ℕ → Type 0
 AreInTime from [] to = from ≤ to
-AreInTime from (round ∷ rounds) to = (from ≤ round.moment) × AreInTime round.moment rounds to
+AreInTime from (round ∷ rounds) to = (from ≤ round.instant) × AreInTime round.instant rounds to
 
--- the mark of an answer: how many there are with it, how many steps the world has after its round, and the store's moment then
+-- the mark of an answer: how many there are with it, how many steps the world has after its round, and the store's instant then
 abbrev pub mark_of : ℕ → Round → Mark
-mark_of answered round = record { answered = answered; steps = steps_of round.after.world; moment = round.moment }
+mark_of answered round = record { answered = answered; steps = steps_of round.after.world; instant = round.instant }
 
 -- one mark for each round
 abbrev pub marks_from : ℕ → List Round → List Mark
@@ -148,7 +148,7 @@ IsLastArea (round ∷ (next ∷ rounds)) area = IsLastArea (next ∷ rounds) are
 -- What the journal's area read when a round began stood in the store: a crash since the round before might have left it.
 abbrev pub JournalsStood : View → ℕ → List Round → Type 0
 JournalsStood v from [] = Unit {0}
-JournalsStood v from (round ∷ rounds) = ((c : Image) × v.left_since from c × (round.journal ≡ c 0)) × JournalsStood v round.moment rounds
+JournalsStood v from (round ∷ rounds) = ((c : Image) × v.left_since from c × (round.journal ≡ c 0)) × JournalsStood v round.instant rounds
 
 -- how many faults of the folder a reply tells
 abbrev pub folder_faults_of : Reply → ℕ
@@ -179,14 +179,14 @@ is_known None = false
 
 -- Whether folder and clock fix what the machine tells to what is asked. A folder that tells nothing may give any texts to
 -- `configure`, and a clock that tells nothing any moment.
-abbrev pub is_told : Option (List NamedText) → Option (List ℕ) → Result Asked LineRefusal → Bool
-is_told folder moments (Err refusal) = true
-is_told folder moments (Ok (One event)) = is_known moments
-is_told folder moments (Ok (AskedAt moment)) = is_known moments
-is_told folder moments (Ok Configure) = is_known folder && is_known moments
-is_told folder moments (Ok _) = true
+abbrev pub is_fixed : Option (List NamedText) → Option (List ℕ) → Result Asked LineRefusal → Bool
+is_fixed folder moments (Err refusal) = true
+is_fixed folder moments (Ok (One event)) = is_known moments
+is_fixed folder moments (Ok (AskedAt moment)) = is_known moments
+is_fixed folder moments (Ok Configure) = is_known folder && is_known moments
+is_fixed folder moments (Ok _) = true
 
 -- the rounds before the first that is a fault or want of memory, or whose reply folder and clock do not fix
 abbrev pub calm : Option (List NamedText) → Option (List ℕ) → List Round → List Round
 calm folder moments [] = []
-calm folder moments (round ∷ rounds) = cond (is_as_defined round.reply && is_told folder moments round.request.asked) (round ∷ calm folder moments rounds) []
+calm folder moments (round ∷ rounds) = cond (is_as_defined round.reply && is_fixed folder moments round.request.asked) (round ∷ calm folder moments rounds) []

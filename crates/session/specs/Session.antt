@@ -6,8 +6,8 @@ use Rattle.outside.specs.declared.folder.NamedText.{NamedText}
 use Rattle.bank.specs.View.{View}
 use Rattle.input.specs.Reading.{Items}
 use Rattle.session.specs.Requests.{Request}
-use Rattle.session.specs.Rounds.{Stage, Round, IsRun, stage_after, asked, output, AreInTime, marks_from, status_from, faults_in, journal_faults_in, IsLastArea, JournalsStood, folder_faults_in, GoOn, calm}
-use Rattle.session.specs.Machine.{AreTold, machine_run, texts_told}
+use Rattle.session.specs.Rounds.{Phase, Round, IsRun, phase_after, asked, output, AreInTime, marks_from, status_from, faults_in, journal_faults_in, IsLastArea, JournalsStood, folder_faults_in, GoOn, calm}
+use Rattle.session.specs.Machine.{AreResponses, machine_run, texts_told}
 use Rattle.session.specs.Kept.{AreKept}
 use Rattle.session.specs.declared.kept.Mark.{Mark}
 use Rattle.session.specs.declared.kept.Ending.{Ending}
@@ -22,11 +22,11 @@ pub record Outside : Type 0 where
   pub sink_faults : ℕ
   pub folder : Option (List NamedText)
   pub folder_faults : ℕ
-  -- the store's faults, those of them in the journal's area, the area of the last one, and its moment
+  -- the store's faults, those of them in the journal's area, the area of the last one, and its instant
   pub bank_faults : ℕ
   pub journal_faults : ℕ
   pub last_fault : ℕ
-  pub moment : ℕ
+  pub instant : ℕ
 
 -- what a source, a sink, a folder and a store tell
 abbrev pub seen : {S K F B : Type 0} → (S → Option (List ℕ)) → (S → ℕ) → (K → Option (List ℕ)) → (K → ℕ) → (F → Option (List NamedText)) → (F → ℕ)
@@ -41,7 +41,7 @@ seen left source_faults written sink_faults texts folder_faults bank_faults jour
   bank_faults = bank_faults bank;
   journal_faults = journal_faults bank;
   last_fault = last_fault bank;
-  moment = (view bank).moment;
+  instant = (view bank).instant;
 }
 
 abbrev pub status_of : Ending → ℕ
@@ -53,28 +53,28 @@ status_of OverBudget = 7
 status_of NoMemory = 9
 
 -- How a session ended: none of the answers but the last ends it, and where the last one does, that ended it.
--- beyond: the bytes taken beyond the budget; met_end: whether the input's end was met; told: the rounds whose answer was
--- written whole; untold: those whose answer was not; cut: what was written of it; lost: what was not; unasked: the requests that
+-- beyond: the bytes taken beyond the budget; met_end: whether the input's end was met; answered: the rounds whose answer was
+-- written whole; unanswered: those whose answer was not; cut: what was written of it; lost: what was not; unasked: the requests that
 -- have no round
 abbrev pub Ends : ℕ → Outside → Outside → List ℕ → List ℕ → Bool → List Round → List Round → List ℕ → List ℕ → List Request → Ending → Type 0
-Ends budget old new read beyond met_end told untold cut lost unasked Ended =
-    GoOn told × (beyond ≡ []) × (met_end ≡ true) × (unasked ≡ []) × (untold ≡ [])
-Ends budget old new read beyond met_end told untold cut lost unasked Closed =
-    ((front : List Round) × (last : Round) × (told ≡ front ++ last ∷ []) × GoOn front × (last.request.closes last.reply ≡ true)) × (beyond ≡ []) × (untold ≡ [])
-Ends budget old new read beyond met_end told untold cut lost unasked SourceFault =
-    GoOn told × (beyond ≡ []) × (met_end ≡ false) × (unasked ≡ []) × (untold ≡ []) × Rose old.source_faults new.source_faults
-Ends budget old new read beyond met_end told untold cut lost unasked OverBudget =
-    GoOn told × (length beyond ≡ 1) × (length read ≡ budget) × (met_end ≡ false) × (unasked ≡ []) × (untold ≡ [])
-Ends budget old new read beyond met_end told untold cut lost unasked SinkFault =
-    GoOn told × (beyond ≡ []) × (length untold ≡ 1) × (lost ≢ []) × Rose old.sink_faults new.sink_faults
-Ends budget old new read beyond met_end told untold cut lost unasked NoMemory =
-    GoOn told × (beyond ≡ []) × (length untold ≡ 1) × (cut ≡ [])
+Ends budget old new read beyond met_end answered unanswered cut lost unasked Ended =
+    GoOn answered × (beyond ≡ []) × (met_end ≡ true) × (unasked ≡ []) × (unanswered ≡ [])
+Ends budget old new read beyond met_end answered unanswered cut lost unasked Closed =
+    ((front : List Round) × (last : Round) × (answered ≡ front ++ last ∷ []) × GoOn front × (last.request.closes last.reply ≡ true)) × (beyond ≡ []) × (unanswered ≡ [])
+Ends budget old new read beyond met_end answered unanswered cut lost unasked SourceFault =
+    GoOn answered × (beyond ≡ []) × (met_end ≡ false) × (unasked ≡ []) × (unanswered ≡ []) × Rose old.source_faults new.source_faults
+Ends budget old new read beyond met_end answered unanswered cut lost unasked OverBudget =
+    GoOn answered × (length beyond ≡ 1) × (length read ≡ budget) × (met_end ≡ false) × (unasked ≡ []) × (unanswered ≡ [])
+Ends budget old new read beyond met_end answered unanswered cut lost unasked SinkFault =
+    GoOn answered × (beyond ≡ []) × (length unanswered ≡ 1) × (lost ≢ []) × Rose old.sink_faults new.sink_faults
+Ends budget old new read beyond met_end answered unanswered cut lost unasked NoMemory =
+    GoOn answered × (beyond ≡ []) × (length unanswered ≡ 1) × (cut ≡ [])
 
--- A session from a stage, on these terms: what was read, asked, answered and written, what ended it, and what a
--- crash at any moment left. `Asks` is what a text asks and how that is answered, be it the lines of a script or the requests of a
--- protocol. `Stands` says at which stage the session stands at the end, `tells` whether the store tells its content, and `store`
+-- A session from a phase, on these terms: what was read, asked, answered and written, what ended it, and what a
+-- crash at any instant left. `Asks` is what a text asks and how that is answered, be it the lines of a script or the requests of a
+-- protocol. `Stands` says at which phase the session stands at the end, `tells` whether the store tells its content, and `store`
 -- what it tells at the end.
-pub record IsSession (terms : Terms) (Asks : Items Request) (Stands : Stage → Type 0) (tells : Bool) (budget : ℕ) (store : View) (old new : Outside) (first : Stage) (marks : List Mark) (status : ℕ) : Type 0 where
+pub record IsSession (terms : Terms) (Asks : Items Request) (Stands : Phase → Type 0) (tells : Bool) (budget : ℕ) (store : View) (old new : Outside) (first : Phase) (marks : List Mark) (status : ℕ) : Type 0 where
   -- the bytes taken from the source, within the budget and beyond it
   pub read : List ℕ
   pub beyond : List ℕ
@@ -83,35 +83,35 @@ pub record IsSession (terms : Terms) (Asks : Items Request) (Stands : Stage → 
   pub met_end : Bool
   pub end : met_end ≡ true → IsAtEnd new.left
   -- the rounds: those whose answers were written whole, and at most one more
-  pub told : List Round
-  pub untold : List Round
+  pub answered : List Round
+  pub unanswered : List Round
   pub unasked : List Request
-  pub asks : asked (told ++ untold) ++ unasked ≡ Asks read met_end
-  pub run : IsRun terms tells old.folder first (told ++ untold)
-  pub stands : Stands (stage_after first (told ++ untold))
+  pub asks : asked (answered ++ unanswered) ++ unasked ≡ Asks read met_end
+  pub run : IsRun terms tells old.folder first (answered ++ unanswered)
+  pub stands : Stands (phase_after first (answered ++ unanswered))
   -- what was written
   pub cut : List ℕ
   pub lost : List ℕ
-  pub cut_off : cut ++ lost ≡ output untold
-  pub written : Appends old.written new.written (output told ++ cut)
-  pub marks_told : marks ≡ marks_from 0 told
-  pub in_time : IsTrue tells → AreInTime old.moment (told ++ untold) new.moment
-  -- what a crash left at any moment since
-  pub kept : IsTrue tells → AreKept terms store old.moment first.world (told ++ untold)
+  pub cut_off : cut ++ lost ≡ output unanswered
+  pub written : Appends old.written new.written (output answered ++ cut)
+  pub marks_kept : marks ≡ marks_from 0 answered
+  pub in_time : IsTrue tells → AreInTime old.instant (answered ++ unanswered) new.instant
+  -- what a crash left at any instant since
+  pub kept : IsTrue tells → AreKept terms store old.instant first.world (answered ++ unanswered)
   -- what the journal's area read when each round began
-  pub journals_stood : IsTrue tells → JournalsStood store old.moment (told ++ untold)
+  pub journals_stood : IsTrue tells → JournalsStood store old.instant (answered ++ unanswered)
   -- what was counted
-  pub counted : AreCounted old.bank_faults (faults_in (told ++ untold)) new.bank_faults
-  pub journal_counted : AreCounted old.journal_faults (journal_faults_in (told ++ untold)) new.journal_faults
-  pub last_area : IsLastArea (told ++ untold) new.last_fault
+  pub counted : AreCounted old.bank_faults (faults_in (answered ++ unanswered)) new.bank_faults
+  pub journal_counted : AreCounted old.journal_faults (journal_faults_in (answered ++ unanswered)) new.journal_faults
+  pub last_area : IsLastArea (answered ++ unanswered) new.last_fault
   pub folder_stays : new.folder ≡ old.folder
-  pub folder_counted : AreCounted old.folder_faults (folder_faults_in (told ++ untold)) new.folder_faults
+  pub folder_counted : AreCounted old.folder_faults (folder_faults_in (answered ++ unanswered)) new.folder_faults
   -- the status
   pub ending : Ending
-  pub ends : Ends budget old new read beyond met_end told untold cut lost unasked ending
-  pub first_cause : status ≡ status_from (told ++ untold) (status_of ending)
+  pub ends : Ends budget old new read beyond met_end answered unanswered cut lost unasked ending
+  pub first_cause : status ≡ status_from (answered ++ unanswered) (status_of ending)
   -- Up to the first fault or want of memory all answers and worlds are the machine's, for the bytes that were read, the folder's
   -- texts and the moments. Where the folder tells nothing, so it is up to the first `configure` as well, and where a clock tells
   -- nothing up to the first event.
-  pub fixed : AreTold tells (calm old.folder first.moments (told ++ untold))
-      (machine_run terms (texts_told old.folder) first (take (length (calm old.folder first.moments (told ++ untold))) (Asks read met_end)))
+  pub fixed : AreResponses tells (calm old.folder first.moments (answered ++ unanswered))
+      (machine_run terms (texts_told old.folder) first (take (length (calm old.folder first.moments (answered ++ unanswered))) (Asks read met_end)))

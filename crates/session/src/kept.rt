@@ -9,8 +9,8 @@ pub struct Mark {
     pub answered: u64,
     /// How many steps of the site were acknowledged.
     pub steps: u64,
-    /// The store's moment then.
-    pub moment: u64,
+    /// The store's instant then.
+    pub instant: u64,
 }
 
 /// A site, the moment of its events, the marks of its answers, and the first cause of a status other than 0.

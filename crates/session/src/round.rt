@@ -9,9 +9,9 @@ ghost use Rattle.site_history.specs.Worlds.{World, steps_of};
 ghost use Rattle.engine.specs.StandsFor.{StandsFor};
 ghost use Rattle.session.specs.Requests.{Request, reply_to};
 ghost use Rattle.session.specs.Hearing.{IsReadAs, IsHeardAs};
-ghost use Rattle.session.specs.Rounds.{Stage, Round, IsRoundOf, IsEvent, first_of, cause_of, faults_of, journal_faults_of, folder_faults_of};
+ghost use Rattle.session.specs.Rounds.{Phase, Round, IsRoundOf, IsEvent, first_of, cause_of, faults_of, journal_faults_of, folder_faults_of};
 ghost use Rattle.session.specs.Standing.{StandsAt, IsMoved};
-ghost use Rattle.session.specs.OneRound.{IsRound, Tells};
+ghost use Rattle.session.specs.OneRound.{IsRound, Writes};
 
 use crate::heard::WriteRefusal;
 use crate::kept::{Ending, Mark, Session};
@@ -61,9 +61,9 @@ fn serve<B: Bank, P: Drop, C: Clock>(
     clock: &mut C,
     event: Event,
 ) -> Reply
-    ensures turn { (terms : Terms) (told : Bool) → (IsTrue told → IsTrue B.tells) → (stage : Stage) → StandsAt terms told B.view engine.old own_moment (C.moments clock.old) stage
-        → (stage' : Stage) × IsEvent terms told stage event (B.last_fault engine.new.bank) ((B.view engine.old.bank).content 0) result stage'
-        × IsMoved terms told B.view engine.old engine.new own_moment (C.moments clock.new) stage stage' }
+    ensures turn { (terms : Terms) (told : Bool) → (IsTrue told → IsTrue B.tells) → (phase : Phase) → StandsAt terms told B.view engine.old own_moment (C.moments clock.old) phase
+        → (phase' : Phase) × IsEvent terms told phase event (B.last_fault engine.new.bank) ((B.view engine.old.bank).content 0) result phase'
+        × IsMoved terms told B.view engine.old engine.new own_moment (C.moments clock.new) phase phase' }
     ensures counted { AreCounted (B.faults engine.old.bank) (faults_of result) (B.faults engine.new.bank) }
     ensures later { B.faults engine.old.bank ≤ B.faults engine.new.bank }
     ensures journal_counted { AreCounted (B.journal_faults engine.old.bank) (journal_faults_of result (B.last_fault engine.new.bank)) (B.journal_faults engine.new.bank) }
@@ -83,9 +83,9 @@ fn configure<B: Bank, P: Drop, F: Folder, C: Clock>(
     folder: &mut F,
     clock: &mut C,
 ) -> Reply
-    ensures round { (terms : Terms) (told : Bool) → (IsTrue told → IsTrue B.tells) → (stage : Stage) → StandsAt terms told B.view engine.old own_moment (C.moments clock.old) stage
-        → (stage' : Stage) × IsRoundOf terms told (F.texts folder.old) stage (Ok Asked.Configure) (B.last_fault engine.new.bank) ((B.view engine.old.bank).content 0) result stage'
-        × IsMoved terms told B.view engine.old engine.new own_moment (C.moments clock.new) stage stage' × AreCounted (F.faults folder.old) (folder_faults_of result) (F.faults folder.new) }
+    ensures round { (terms : Terms) (told : Bool) → (IsTrue told → IsTrue B.tells) → (phase : Phase) → StandsAt terms told B.view engine.old own_moment (C.moments clock.old) phase
+        → (phase' : Phase) × IsRoundOf terms told (F.texts folder.old) phase (Ok Asked.Configure) (B.last_fault engine.new.bank) ((B.view engine.old.bank).content 0) result phase'
+        × IsMoved terms told B.view engine.old engine.new own_moment (C.moments clock.new) phase phase' × AreCounted (F.faults folder.old) (folder_faults_of result) (F.faults folder.new) }
     ensures counted { AreCounted (B.faults engine.old.bank) (faults_of result) (B.faults engine.new.bank) }
     ensures later { B.faults engine.old.bank ≤ B.faults engine.new.bank }
     ensures journal_counted { AreCounted (B.journal_faults engine.old.bank) (journal_faults_of result (B.last_fault engine.new.bank)) (B.journal_faults engine.new.bank) }
@@ -112,10 +112,10 @@ fn respond<B: Bank, P: Drop, F: Folder, C: Clock>(
     clock: &mut C,
     asked: Result<Asked, LineRefusal>,
 ) -> Reply
-    ensures round { (terms : Terms) (told : Bool) → (IsTrue told → IsTrue B.tells) → (stage : Stage) → StandsAt terms told B.view engine.old own_moment.old (C.moments clock.old) stage
+    ensures round { (terms : Terms) (told : Bool) → (IsTrue told → IsTrue B.tells) → (phase : Phase) → StandsAt terms told B.view engine.old own_moment.old (C.moments clock.old) phase
         → (demand : ResultOf AskedOf RefusalOf) → IsReadAs asked demand
-        → (stage' : Stage) × IsRoundOf terms told (F.texts folder.old) stage demand (B.last_fault engine.new.bank) ((B.view engine.old.bank).content 0) result stage'
-        × IsMoved terms told B.view engine.old engine.new own_moment.new (C.moments clock.new) stage stage' × AreCounted (F.faults folder.old) (folder_faults_of result) (F.faults folder.new) }
+        → (phase' : Phase) × IsRoundOf terms told (F.texts folder.old) phase demand (B.last_fault engine.new.bank) ((B.view engine.old.bank).content 0) result phase'
+        × IsMoved terms told B.view engine.old engine.new own_moment.new (C.moments clock.new) phase phase' × AreCounted (F.faults folder.old) (folder_faults_of result) (F.faults folder.new) }
     ensures counted { AreCounted (B.faults engine.old.bank) (faults_of result) (B.faults engine.new.bank) }
     ensures later { B.faults engine.old.bank ≤ B.faults engine.new.bank }
     ensures journal_counted { AreCounted (B.journal_faults engine.old.bank) (journal_faults_of result (B.last_fault engine.new.bank)) (B.journal_faults engine.new.bank) }
@@ -145,11 +145,11 @@ fn answer<B: Bank, P: Drop, F: Folder, C: Clock>(
     clock: &mut C,
     asked: Result<Asked, LineRefusal>,
 ) -> Reply
-    ensures round { (terms : Terms) (told : Bool) → (IsTrue told → IsTrue B.tells) → (stage : Stage) → StandsAt terms told B.view session.old.engine session.old.own_moment (C.moments clock.old) stage
+    ensures round { (terms : Terms) (told : Bool) → (IsTrue told → IsTrue B.tells) → (phase : Phase) → StandsAt terms told B.view session.old.engine session.old.own_moment (C.moments clock.old) phase
         → (demand : ResultOf AskedOf RefusalOf) → IsReadAs asked demand
-        → (stage' : Stage) × IsRoundOf terms told (F.texts folder.old) stage demand
-        (B.last_fault session.new.engine.bank) ((B.view session.old.engine.bank).content 0) result stage'
-        × IsMoved terms told B.view session.old.engine session.new.engine session.new.own_moment (C.moments clock.new) stage stage' × AreCounted (F.faults folder.old) (folder_faults_of result) (F.faults folder.new) }
+        → (phase' : Phase) × IsRoundOf terms told (F.texts folder.old) phase demand
+        (B.last_fault session.new.engine.bank) ((B.view session.old.engine.bank).content 0) result phase'
+        × IsMoved terms told B.view session.old.engine session.new.engine session.new.own_moment (C.moments clock.new) phase phase' × AreCounted (F.faults folder.old) (folder_faults_of result) (F.faults folder.new) }
     ensures counted { AreCounted (B.faults session.old.engine.bank) (faults_of result) (B.faults session.new.engine.bank) }
     ensures later { B.faults session.old.engine.bank ≤ B.faults session.new.engine.bank }
     ensures journal_counted { AreCounted (B.journal_faults session.old.engine.bank) (journal_faults_of result (B.last_fault session.new.engine.bank)) (B.journal_faults session.new.engine.bank) }
@@ -177,17 +177,17 @@ fn answer<B: Bank, P: Drop, F: Folder, C: Clock>(
 fn next_mark<B: Bank, P: Drop>(session: &Session<B, P>) -> Mark
     ensures answered { result.answered ≡ length session.now.marks.items + 1 }
     ensures steps { (terms : Terms) (told : Bool) (w : World) → StandsFor terms told B.view session.now.engine w → result.steps ≡ steps_of w }
-    ensures moment { IsTrue B.tells → result.moment ≡ (B.view session.now.engine.bank).moment }
+    ensures instant { IsTrue B.tells → result.instant ≡ (B.view session.now.engine.bank).instant }
 {
     Mark {
         answered: session.marks.len() as u64 + 1,
         steps: session.engine.steps(),
-        moment: session.engine.bank().moment(),
+        instant: session.engine.bank().instant(),
     }
 }
 
 /// Writes an answer and keeps its mark. Some ends the session.
-fn tell<L: Protocol, O: Sink>(
+fn write_answer<L: Protocol, O: Sink>(
     alloc: Global,
     protocol: &L,
     form: &L::Form,
@@ -196,7 +196,7 @@ fn tell<L: Protocol, O: Sink>(
     mark: Mark,
     output: &mut O,
 ) -> Option<Ending>
-    ensures tells { Tells (O.written output.old) (O.written output.new) (O.faults output.old) (O.faults output.new)
+    ensures tells { Writes (O.written output.old) (O.written output.new) (O.faults output.old) (O.faults output.new)
         marks.old.items marks.new.items result (L.text form.now reply.now) (L.closes form.now reply.now) mark }
     ensures later { O.faults output.old ≤ O.faults output.new }
     ensures beside { O.beside output.new ≡ O.beside output.old }
@@ -230,10 +230,10 @@ pub fn one_round<B: Bank, P: Drop, F: Folder, C: Clock, L: Protocol, O: Sink>(
     form: L::Form,
     output: &mut O,
 ) -> Option<Ending>
-    ensures round { (terms : Terms) (told : Bool) → (IsTrue told → IsTrue B.tells) → (stage : Stage) → StandsAt terms told B.view session.old.engine session.old.own_moment (C.moments clock.old) stage
+    ensures round { (terms : Terms) (told : Bool) → (IsTrue told → IsTrue B.tells) → (phase : Phase) → StandsAt terms told B.view session.old.engine session.old.own_moment (C.moments clock.old) phase
         → (request : Request) → IsHeardAs L.text L.closes asked form request → (round : Round)
         × IsRound terms (StandsAt terms told B.view session.new.engine session.new.own_moment (C.moments clock.new)) told
-        (F.texts folder.old) (B.view session.old.engine.bank) (B.view session.new.engine.bank) stage request
+        (F.texts folder.old) (B.view session.old.engine.bank) (B.view session.new.engine.bank) phase request
         (O.written output.old) (O.written output.new) (O.faults output.old) (O.faults output.new) (F.faults folder.old) (F.faults folder.new)
         (B.faults session.old.engine.bank) (B.faults session.new.engine.bank) (B.journal_faults session.old.engine.bank) (B.journal_faults session.new.engine.bank)
         (B.last_fault session.new.engine.bank) session.old.marks.items session.new.marks.items session.old.status session.new.status result round }
@@ -248,7 +248,7 @@ pub fn one_round<B: Bank, P: Drop, F: Folder, C: Clock, L: Protocol, O: Sink>(
 {
     let reply = answer(alloc, session, folder, clock, asked);
     let mark = next_mark(session);
-    tell(
+    write_answer(
         alloc,
         protocol,
         &form,

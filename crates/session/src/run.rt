@@ -6,11 +6,11 @@ ghost use Rattle.input.specs.Reading.{Begins};
 ghost use Rattle.site_history.specs.Steps.{HistoryStep};
 ghost use Rattle.site_history.specs.Images.{IsSettled};
 ghost use Rattle.site_history.specs.Journals.{IsBadJournal};
-ghost use Rattle.session.specs.Rounds.{Stage, first_of};
+ghost use Rattle.session.specs.Rounds.{Phase, first_of};
 ghost use Rattle.session.specs.Standing.{StandsAt};
 ghost use Rattle.session.specs.Kept.{Passes};
 ghost use Rattle.session.specs.Session.{IsSession, seen, status_of};
-ghost use Rattle.session.specs.Refusing.{TellsRefusal, status_of_shut};
+ghost use Rattle.session.specs.Refusing.{WritesRefusal, status_of_shut};
 ghost use Rattle.session.specs.Outcomes.{run_terms, journal_bytes, IsRefused, IsOutcome, HasStatus};
 
 use crate::heard::Heard;
@@ -57,14 +57,14 @@ pub fn converse<B: Bank, P: Drop, F: Folder, C: Clock, L: Protocol, I: Source, O
     requires status { session.old.status ≡ 0 }
     requires ready { session.old.engine.due ≡ false }
     requires fresh { Begins (L.reading protocol.old).budget (L.reading protocol.old) }
-    ensures session { (terms : Terms) (told : Bool) → (IsTrue told → IsTrue B.tells) → (stage : Stage) → StandsAt terms told B.view session.old.engine session.old.own_moment (C.moments clock.old) stage
+    ensures session { (terms : Terms) (told : Bool) → (IsTrue told → IsTrue B.tells) → (phase : Phase) → StandsAt terms told B.view session.old.engine session.old.own_moment (C.moments clock.old) phase
         → IsSession terms L.asks (StandsAt terms told B.view session.new.engine session.new.own_moment (C.moments clock.new)) told
         (L.reading protocol.old).budget (B.view session.new.engine.bank)
         (seen I.left I.faults O.written O.faults F.texts F.faults B.faults B.journal_faults B.last_fault B.view input.old output.old folder.old session.old.engine.bank)
         (seen I.left I.faults O.written O.faults F.texts F.faults B.faults B.journal_faults B.last_fault B.view input.new output.new folder.new session.new.engine.bank)
-        stage session.new.marks.items (first_of session.new.status (status_of result)) }
+        phase session.new.marks.items (first_of session.new.status (status_of result)) }
     // Time goes on.
-    ensures passes { (terms : Terms) (told : Bool) → (IsTrue told → IsTrue B.tells) → (stage : Stage) → StandsAt terms told B.view session.old.engine session.old.own_moment (C.moments clock.old) stage
+    ensures passes { (terms : Terms) (told : Bool) → (IsTrue told → IsTrue B.tells) → (phase : Phase) → StandsAt terms told B.view session.old.engine session.old.own_moment (C.moments clock.old) phase
         → IsTrue told → Passes (B.view session.old.engine.bank) (B.view session.new.engine.bank) }
     ensures size { session.new.engine.journal.size ≡ session.old.engine.journal.size }
     ensures clock { IsSome session.old.own_moment → clock.new ≡ clock.old }
@@ -109,7 +109,7 @@ fn code(ending: Ending) -> u8
 /// status stays that of the bad journal, which came first.
 fn refuse<O: Sink>(cause: ShutCause, output: &mut O) -> u8
     ensures status { result ≡ status_of_shut cause }
-    ensures bytes { TellsRefusal (O.written output.old) (O.written output.new) (O.faults output.old) (O.faults output.new) cause }
+    ensures bytes { WritesRefusal (O.written output.old) (O.written output.new) (O.faults output.old) (O.faults output.new) cause }
     ensures later { O.faults output.old ≤ O.faults output.new }
     ensures beside { O.beside output.new ≡ O.beside output.old }
 {

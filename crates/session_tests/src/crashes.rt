@@ -1,4 +1,4 @@
-//! What is left of a site after a crash at each moment, and after each call of the store failed once.
+//! What is left of a site after a crash at each instant, and after each call of the store failed once.
 
 use crate::left::{CHANGES, Change, READS, read_after};
 use crate::texts::{folder_of, texts_of};
@@ -83,26 +83,26 @@ fn read_again(alloc: Global, bank: MemoryBank) -> Result<Bytes, Fail> {
 }
 
 // Reads what a crash left.
-fn read_back(alloc: Global, bank: &MemoryBank, moment: u64, pick: u8) -> Result<Bytes, Fail> {
-    read_again(alloc, bank.crashed(moment, pick)?)
+fn read_back(alloc: Global, bank: &MemoryBank, instant: u64, pick: u8) -> Result<Bytes, Fail> {
+    read_again(alloc, bank.crashed(instant, pick)?)
 }
 
-// How many lines were answered by a moment.
-fn answered(marks: &[Mark], moment: u64) -> usize {
-    marks.iter().filter(|mark| mark.moment <= moment).count()
+// How many lines were answered by a instant.
+fn answered(marks: &[Mark], instant: u64) -> usize {
+    marks.iter().filter(|mark| mark.instant <= instant).count()
 }
 
-// A crash at a moment leaves what was answered by then, and at most one line more.
+// A crash at a instant leaves what was answered by then, and at most one line more.
 fn crash_at(
     rt: &impl Abort,
     alloc: Global,
     left: &Left,
     reads: &[Vec<u8>],
-    moment: u64,
+    instant: u64,
 ) -> Result<(), Fail> {
-    let told = answered(left.marks.as_slice(), moment);
+    let told = answered(left.marks.as_slice(), instant);
     for pick in 0..3 {
-        let read = read_back(alloc, &left.bank, moment, pick)?;
+        let read = read_back(alloc, &left.bank, instant, pick)?;
         let mut near = reads.iter().skip(told).take(2);
         let is_near = near.any(|left| left.as_slice() == read.as_slice());
         assert!(rt; is_near);
@@ -117,8 +117,8 @@ fn a_crash_at_each_moment_leaves_what_was_answered(rt: HostRuntime) -> Result<()
     let left = run(alloc, fresh(alloc)?, &site_texts(alloc)?, &all)?;
     assert_eq!(rt; left.marks.len(), CHANGES.len());
     let reads = reads_of_prefixes(alloc)?;
-    for moment in 0..=left.bank.moment() {
-        crash_at(&rt, alloc, &left, &reads, moment)?;
+    for instant in 0..=left.bank.instant() {
+        crash_at(&rt, alloc, &left, &reads, instant)?;
     }
     Ok(())
 }
@@ -143,7 +143,7 @@ fn failing_run(alloc: Global, area: u32, call: BankCall, number: u64) -> Result<
 
 // What was acknowledged is there; the line at whose end the journal failed may be, and then all lines went well.
 fn is_kept(rt: &impl Abort, alloc: Global, left: &Left, all: &[u8]) -> Result<(), Fail> {
-    let read = read_back(alloc, &left.bank, left.bank.moment(), 1)?;
+    let read = read_back(alloc, &left.bank, left.bank.instant(), 1)?;
     if read.as_slice() == all {
         return Ok(());
     }

@@ -2,7 +2,7 @@
 use Rattle.std.proofs.Common.{◌≡◌, ◌⊎◌, inl, inr, ⊎_elim, ℕ, ◌+◌, List, [], ◌∷◌, ◌++◌, length, refl, sym, ◌∙◌, ap, subst}
 use Rattle.bank.specs.Content.{Image}
 use Rattle.bank.specs.View.{View, IsImage, IsSound, LeavesOnly, Wrote}
-use Rattle.bank.proofs.Moments.{weakened, joined}
+use Rattle.bank.proofs.Instants.{weakened, joined}
 use Rattle.journal.specs.Records.{HoldsRecords, AllHold, IsBeforeOrAfter}
 use Rattle.journal.proofs.Held.{now_has}
 use Rattle.step_codec.specs.Written.{written}
@@ -52,8 +52,8 @@ module _ (terms : Terms) (v w : View) (steps : List HistoryStep) (made : History
   either c appended = ⊎_elim (λ old. inl (old_image c appended old)) (λ new. inr (new_image c appended new)) appended.records
 
   -- At each moment of the append what a crash leaves reads as the history, without the step or with it.
-  pub commit_moments : LeavesOnly v w (IsBeforeOrAfter v (written_forms steps) payload terms.size) → LeavesOnly v w (λ c. Reads terms c steps ⊎ Reads terms c (steps ++ made ∷ []))
-  commit_moments appended = weakened v w (IsBeforeOrAfter v (written_forms steps) payload terms.size) (λ c. Reads terms c steps ⊎ Reads terms c (steps ++ made ∷ [])) appended either
+  pub commit_meanwhile : LeavesOnly v w (IsBeforeOrAfter v (written_forms steps) payload terms.size) → LeavesOnly v w (λ c. Reads terms c steps ⊎ Reads terms c (steps ++ made ∷ []))
+  commit_meanwhile appended = weakened v w (IsBeforeOrAfter v (written_forms steps) payload terms.size) (λ c. Reads terms c steps ⊎ Reads terms c (steps ++ made ∷ [])) appended either
 
   -- Once the record is acknowledged, the store is pinned to the history with the step.
   pub commit_pinned : (place : ℕ) → AllHold w (written_forms steps ++ payload ∷ []) terms.size → Wrote 0 place (6 + length payload) v w → IsPinned terms w (steps ++ made ∷ [])
@@ -65,10 +65,10 @@ module _ (terms : Terms) (v w : View) (steps : List HistoryStep) (made : History
 
   -- After a fault each image reads as the one or the other.
   pub commit_faulted : IsSound w → LeavesOnly v w (IsBeforeOrAfter v (written_forms steps) payload terms.size) → (c : Image) → IsImage w c → Reads terms c steps ⊎ Reads terms c (steps ++ made ∷ [])
-  commit_faulted sound appended c image = now_has v w (λ c. Reads terms c steps ⊎ Reads terms c (steps ++ made ∷ [])) sound (commit_moments appended) c image
+  commit_faulted sound appended c image = now_has v w (λ c. Reads terms c steps ⊎ Reads terms c (steps ++ made ∷ [])) sound (commit_meanwhile appended) c image
 
 -- First the bytes of a step are written, elsewhere, and then its record is appended: what a crash leaves in all that time.
-pub put_moments : (terms : Terms) (u v w : View) (steps : List HistoryStep) (made : HistoryStep) → LeavesOnly u v (λ c. Reads terms c steps)
+pub put_meanwhile : (terms : Terms) (u v w : View) (steps : List HistoryStep) (made : HistoryStep) → LeavesOnly u v (λ c. Reads terms c steps)
     → LeavesOnly v w (λ c. Reads terms c steps ⊎ Reads terms c (steps ++ made ∷ [])) → LeavesOnly u w (λ c. Reads terms c steps ⊎ Reads terms c (steps ++ made ∷ []))
-put_moments terms u v w steps made first second = joined u v w (λ c. Reads terms c steps ⊎ Reads terms c (steps ++ made ∷ []))
+put_meanwhile terms u v w steps made first second = joined u v w (λ c. Reads terms c steps ⊎ Reads terms c (steps ++ made ∷ []))
     (weakened u v (λ c. Reads terms c steps) (λ c. Reads terms c steps ⊎ Reads terms c (steps ++ made ∷ [])) first (λ c reads. inl reads)) second

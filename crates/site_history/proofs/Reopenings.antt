@@ -3,7 +3,7 @@ use Rattle.std.proofs.Common.{◌≡◌, inl, inr, ⊎_elim, ℕ, List, [], ◌�
 use Rattle.std.proofs.lemmas.List.{length-map}
 use Rattle.bank.specs.Content.{Image, Same}
 use Rattle.bank.specs.View.{View, IsImage, IsSound, OnlyContent, OnlyRead, LeavesOnly}
-use Rattle.bank.proofs.Moments.{weakened}
+use Rattle.bank.proofs.Instants.{weakened}
 use Rattle.journal.specs.Records.{HoldsRecords}
 use Rattle.journal.proofs.RecordLaws.{holds-same, one_list}
 use Rattle.step_codec.specs.Written.{written}
@@ -105,8 +105,8 @@ pub images_after_reading : (terms : Terms) (u v : View) (w : World) → OnlyRead
 images_after_reading terms u v w h images c image = images c (λ a. h.images a (c a) (image a))
 
 -- And so they do at each moment meanwhile.
-pub moments_of_reading : (terms : Terms) (u v : View) (w : World) → OnlyRead u v → ((c : Image) → IsImage u c → ReadsAs terms w c) → LeavesOnly u v (ReadsAs terms w)
-moments_of_reading terms u v w h images = weakened u v (IsImage u) (ReadsAs terms w) h.moments images
+pub meanwhile_reading : (terms : Terms) (u v : View) (w : World) → OnlyRead u v → ((c : Image) → IsImage u c → ReadsAs terms w c) → LeavesOnly u v (ReadsAs terms w)
+meanwhile_reading terms u v w h images = weakened u v (IsImage u) (ReadsAs terms w) h.meanwhile images
 
 -- They leave a store settled.
 pub settled_after_reading : (terms : Terms) (u v : View) (steps : List HistoryStep) → OnlyRead u v → IsSettled terms u steps → IsSettled terms v steps

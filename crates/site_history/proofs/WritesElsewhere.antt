@@ -5,7 +5,7 @@ use Rattle.bank.specs.Content.{Content, Image, Stands}
 use Rattle.bank.specs.View.{View, LeavesOnly}
 use Rattle.bank.specs.Inside.{SameBeside, IsTornInside, WroteInside}
 use Rattle.bank.proofs.Spans.{Stands-same}
-use Rattle.bank.proofs.Moments.{weakened}
+use Rattle.bank.proofs.Instants.{weakened}
 use Rattle.site_history.specs.Terms.{Terms}
 use Rattle.site_history.specs.Steps.{HistoryStep}
 use Rattle.site_history.specs.Histories.{after, IsHistory}
@@ -74,7 +74,7 @@ module _ (area : ℕ) (inside : ℕ → Bool) where
 
     -- At each moment meanwhile, what a crash leaves reads as the history.
     pub still_reads : IsHistory terms steps → LeavesOnly v w (λ c. Reads terms c steps)
-    still_reads history = weakened v w (IsTornInside v area inside) (λ c. Reads terms c steps) wrote.moments (λ c torn. record {
+    still_reads history = weakened v w (IsTornInside v area inside) (λ c. Reads terms c steps) wrote.meanwhile (λ c torn. record {
       history = history;
       records = h.records.each (c 0) (torn.others 0 (λ e. other (sym e)));
       bytes = torn_stands v c (extents (after terms steps)) clear h.bytes torn;

@@ -3,9 +3,9 @@ use Rattle.std.proofs.Common.{None}
 use Rattle.session.proofs.round.serve.Goals as goal
 
 pub returns-clause-turn : goal.returns-clause-turn
-returns-clause-turn g c = λ terms told tells stage stands.
-    served terms told g.B.Bank.view c.args.engine.now _ _ None 0 0 stage stands _ _ c.args.event c.take_moment-now.result _ c.event.result c.event.new.self
-    c.take_moment-now.ensures.gives (c.event.ensures.turn terms told tells stage.world stands.world)
+returns-clause-turn g c = λ terms told tells phase stands.
+    served terms told g.B.Bank.view c.args.engine.now _ _ None 0 0 phase stands _ _ c.args.event c.take_moment-now.result _ c.event.result c.event.new.self
+    c.take_moment-now.ensures.gives (c.event.ensures.turn terms told tells phase.world stands.world)
 
 pub returns-clause-counted : goal.returns-clause-counted
 returns-clause-counted g c = counted_reply c.event.result _ _ c.event.ensures.fault c.event.ensures.later

@@ -1,15 +1,15 @@
 use Rattle.std.proofs.Common.{refl, sym, arith, ◌∙◌}
-use Rattle.bank.proofs.Moments.{joined, weakened, started}
-use Rattle.session.specs.Rounds.{stage_after}
+use Rattle.bank.proofs.Instants.{joined, weakened, started}
+use Rattle.session.specs.Rounds.{phase_after}
 use Rattle.input.proofs.Steps.{falls_by}
 use Rattle.session.proofs.Closing.{begun, goes_over, goes_on, ends_at, stopped_at}
 use Rattle.session.proofs.run.converse.Goals as goal
 
 pub requests-init : goal.requests-init
 requests-init g c = record {
-  ran = λ terms told tells stage h. begun terms g.L.Protocol.asks _ _ _ _ _ stage _ _ c.requires.marks c.requires.status c.requires.fresh.still_open h refl
+  ran = λ terms told tells phase h. begun terms g.L.Protocol.asks _ _ _ _ _ phase _ _ c.requires.marks c.requires.status c.requires.fresh.still_open h refl
       (λ t. g.met.B.Bank.sound _ (tells t)) h.world.images;
-  passes = λ terms told tells stage h t. started _ _ (g.met.B.Bank.sound _ (tells t)) (λ image is. tt);
+  passes = λ terms told tells phase h t. started _ _ (g.met.B.Bank.sound _ (tells t)) (λ image is. tt);
   size = refl;
   patterns = refl;
   clock = λ some. (refl, some);
@@ -27,7 +27,7 @@ requests-smaller-in-Skipped g c = let t = c.in-Skipped.ensures.hears in falls_by
 
 pub requests-preserved-in-Skipped : goal.requests-preserved-in-Skipped
 requests-preserved-in-Skipped g c = record {
-  ran = λ terms told tells stage h. goes_over terms g.L.Protocol.asks _ _ _ _ _ _ _ stage (sym h.world.due ∙ c.requires.ready) _ _ (c.requests.invariant.ran terms told tells stage h) _ _ _ c.in-Skipped.ensures.hears;
+  ran = λ terms told tells phase h. goes_over terms g.L.Protocol.asks _ _ _ _ _ _ _ phase (sym h.world.due ∙ c.requires.ready) _ _ (c.requests.invariant.ran terms told tells phase h) _ _ _ c.in-Skipped.ensures.hears;
   passes = c.requests.invariant.passes;
   size = c.requests.invariant.size;
   patterns = c.requests.invariant.patterns;
@@ -42,19 +42,19 @@ requests-preserved-in-Skipped g c = record {
 }
 
 pub returns-in-Some-clause-session : goal.returns-in-Some-clause-session
-returns-in-Some-clause-session g c = λ terms told tells stage h.
-    let r = c.requests.invariant.ran terms told tells stage h in
+returns-in-Some-clause-session g c = λ terms told tells phase h.
+    let r = c.requests.invariant.ran terms told tells phase h in
     let heard = c.in-Asks.ensures.hears in
-    let round = c.in-Some.ensures.round terms told tells (stage_after stage r.rounds) r.stands heard.0 heard.1 in
-    ends_at terms g.L.Protocol.asks _ _ _ _ _ _ _ stage (sym h.world.due ∙ c.requires.ready) _ _ r _ _ _ heard.0 heard.2 _ _ _ _ _ _ _ _ _ _ _ _ round.0 refl c.in-Some.ensures.folder_texts round.1
-    c.requires.fresh.nothing_held c.requires.fresh.still_open c.requests.invariant.sink_later c.in-Some.ending round.1.tells_answer
+    let round = c.in-Some.ensures.round terms told tells (phase_after phase r.rounds) r.stands heard.0 heard.1 in
+    ends_at terms g.L.Protocol.asks _ _ _ _ _ _ _ phase (sym h.world.due ∙ c.requires.ready) _ _ r _ _ _ heard.0 heard.2 _ _ _ _ _ _ _ _ _ _ _ _ round.0 refl c.in-Some.ensures.folder_texts round.1
+    c.requires.fresh.nothing_held c.requires.fresh.still_open c.requests.invariant.sink_later c.in-Some.ending round.1.writes_answer
 
 pub returns-in-Some-clause-passes : goal.returns-in-Some-clause-passes
-returns-in-Some-clause-passes g c = λ terms told tells stage h t.
-    let r = c.requests.invariant.ran terms told tells stage h in
+returns-in-Some-clause-passes g c = λ terms told tells phase h t.
+    let r = c.requests.invariant.ran terms told tells phase h in
     let heard = c.in-Asks.ensures.hears in
-    let round = c.in-Some.ensures.round terms told tells (stage_after stage r.rounds) r.stands heard.0 heard.1 in
-    joined _ _ _ _ (c.requests.invariant.passes terms told tells stage h t) (weakened _ _ _ _ (round.1.meanwhile t) (λ image is. tt))
+    let round = c.in-Some.ensures.round terms told tells (phase_after phase r.rounds) r.stands heard.0 heard.1 in
+    joined _ _ _ _ (c.requests.invariant.passes terms told tells phase h t) (weakened _ _ _ _ (round.1.meanwhile t) (λ image is. tt))
 
 pub returns-in-Some-clause-clock : goal.returns-in-Some-clause-clock
 returns-in-Some-clause-clock g c = λ some. let before = c.requests.invariant.clock some in (c.one_round.ensures.clock before.1).0 ∙ before.0
@@ -64,16 +64,16 @@ requests-smaller g c = let t = c.in-Asks.ensures.hears.2 in falls_by _ _ _ _ _ t
 
 pub requests-preserved : goal.requests-preserved
 requests-preserved g c = record {
-  ran = λ terms told tells stage h.
-      let r = c.requests.invariant.ran terms told tells stage h in
+  ran = λ terms told tells phase h.
+      let r = c.requests.invariant.ran terms told tells phase h in
       let heard = c.in-Asks.ensures.hears in
-      let round = c.in-None.ensures.round terms told tells (stage_after stage r.rounds) r.stands heard.0 heard.1 in
-      goes_on terms g.L.Protocol.asks _ _ _ _ _ _ _ stage (sym h.world.due ∙ c.requires.ready) _ _ r _ _ _ heard.0 heard.2 _ _ _ _ _ _ _ _ _ _ _ _ round.0 refl c.in-None.ensures.folder_texts round.1 round.1.tells_answer;
-  passes = λ terms told tells stage h t.
-      let r = c.requests.invariant.ran terms told tells stage h in
+      let round = c.in-None.ensures.round terms told tells (phase_after phase r.rounds) r.stands heard.0 heard.1 in
+      goes_on terms g.L.Protocol.asks _ _ _ _ _ _ _ phase (sym h.world.due ∙ c.requires.ready) _ _ r _ _ _ heard.0 heard.2 _ _ _ _ _ _ _ _ _ _ _ _ round.0 refl c.in-None.ensures.folder_texts round.1 round.1.writes_answer;
+  passes = λ terms told tells phase h t.
+      let r = c.requests.invariant.ran terms told tells phase h in
       let heard = c.in-Asks.ensures.hears in
-      let round = c.in-None.ensures.round terms told tells (stage_after stage r.rounds) r.stands heard.0 heard.1 in
-      joined _ _ _ _ (c.requests.invariant.passes terms told tells stage h t) (weakened _ _ _ _ (round.1.meanwhile t) (λ image is. tt));
+      let round = c.in-None.ensures.round terms told tells (phase_after phase r.rounds) r.stands heard.0 heard.1 in
+      joined _ _ _ _ (c.requests.invariant.passes terms told tells phase h t) (weakened _ _ _ _ (round.1.meanwhile t) (λ image is. tt));
   size = c.in-None.ensures.size ∙ c.requests.invariant.size;
   patterns = c.in-None.ensures.patterns ∙ c.requests.invariant.patterns;
   clock = λ some. let before = c.requests.invariant.clock some in let after = c.one_round.ensures.clock before.1 in (after.0 ∙ before.0, after.1);
@@ -87,5 +87,5 @@ requests-preserved g c = record {
 }
 
 pub returns-in-Stopped-clause-session : goal.returns-in-Stopped-clause-session
-returns-in-Stopped-clause-session g c = λ terms told tells stage h.
-    stopped_at terms g.L.Protocol.asks _ _ _ _ _ _ _ stage (sym h.world.due ∙ c.requires.ready) _ _ (c.requests.invariant.ran terms told tells stage h) _ _ _ c.requires.fresh.nothing_held c.requires.fresh.still_open c.requests.invariant.source_later c.in-Stopped.ending c.in-Stopped.ensures.hears
+returns-in-Stopped-clause-session g c = λ terms told tells phase h.
+    stopped_at terms g.L.Protocol.asks _ _ _ _ _ _ _ phase (sym h.world.due ∙ c.requires.ready) _ _ (c.requests.invariant.ran terms told tells phase h) _ _ _ c.requires.fresh.nothing_held c.requires.fresh.still_open c.requests.invariant.source_later c.in-Stopped.ending c.in-Stopped.ensures.hears

@@ -3,7 +3,7 @@ use Rattle.std.proofs.KnownBytes.{Appends-nil}
 use Rattle.bank.specs.View.{OnlyRead}
 use Rattle.site_history.proofs.JournalLaws.{not_bad_journal}
 use Rattle.session.specs.Asking.{asks_of}
-use Rattle.session.specs.Outcomes.{run_terms, stage_of}
+use Rattle.session.specs.Outcomes.{run_terms, phase_of}
 use Rattle.session.specs.Rounds.{first_of}
 use Rattle.session.proofs.Handing.{begins_at, handed, with_whole, answered_status}
 use Rattle.session.proofs.Refusals.{shut_refused, shut_status, still_settled}
@@ -65,7 +65,7 @@ returns-in_default-clause-good g c = λ tells before settled is. absurd (omega (
 pub returns-clause-outcome : goal.returns-clause-outcome
 returns-clause-outcome g c = λ told tells before settled.
     inl (with_whole (run_terms (g.P.Patterns.found c.args.patterns)) told c.args.budget _ _ _ _ before _ _
-    (handed (run_terms (g.P.Patterns.found c.args.patterns)) asks_of stage_of told g.B.Bank.faults g.B.Bank.journal_faults g.B.Bank.last_fault g.B.Bank.view _ _ _ _ _ _ _ _ _ _ _ _ _ _ _ _ c.args.bank c.in-Ok.engine c.converse-ending.new.session.engine before (λ found. refl)
+    (handed (run_terms (g.P.Patterns.found c.args.patterns)) asks_of phase_of told g.B.Bank.faults g.B.Bank.journal_faults g.B.Bank.last_fault g.B.Bank.view _ _ _ _ _ _ _ _ _ _ _ _ _ _ _ _ c.args.bank c.in-Ok.engine c.converse-ending.new.session.engine before (λ found. refl)
     (c.in-Ok.ensures.stands (run_terms (g.P.Patterns.found c.args.patterns)) refl told tells before settled) (begins_at (run_terms (g.P.Patterns.found c.args.patterns)) told g.B.Bank.view c.in-Ok.engine _) (λ t. c.in-Ok.ensures.unchanged (tells t)) settled (λ t. g.met.B.Bank.sound _ (tells t)) c.in-Ok.ensures.later c.in-Ok.ensures.journal_later
     _ _ _ _ _ _ _
     (c.converse-ending.ensures.passes (run_terms (g.P.Patterns.found c.args.patterns)) told tells) (c.converse-ending.ensures.session (run_terms (g.P.Patterns.found c.args.patterns)) told tells)
@@ -74,7 +74,7 @@ returns-clause-outcome g c = λ told tells before settled.
 
 pub returns-clause-status : goal.returns-clause-status
 returns-clause-status g c = answered_status (run_terms (g.P.Patterns.found c.args.patterns)) false c.args.budget _ _ _ _ [] _ _ g.B.Bank.tells _ (λ t. c.in-Ok.ensures.journal t (run_terms (g.P.Patterns.found c.args.patterns)) refl)
-    (handed (run_terms (g.P.Patterns.found c.args.patterns)) asks_of stage_of false g.B.Bank.faults g.B.Bank.journal_faults g.B.Bank.last_fault g.B.Bank.view _ _ _ _ _ _ _ _ _ _ _ _ _ _ _ _ c.args.bank c.in-Ok.engine c.converse-ending.new.session.engine [] (λ found. refl)
+    (handed (run_terms (g.P.Patterns.found c.args.patterns)) asks_of phase_of false g.B.Bank.faults g.B.Bank.journal_faults g.B.Bank.last_fault g.B.Bank.view _ _ _ _ _ _ _ _ _ _ _ _ _ _ _ _ c.args.bank c.in-Ok.engine c.converse-ending.new.session.engine [] (λ found. refl)
     (c.in-Ok.ensures.stands (run_terms (g.P.Patterns.found c.args.patterns)) refl false no_tells [] no_tells) (begins_at (run_terms (g.P.Patterns.found c.args.patterns)) false g.B.Bank.view c.in-Ok.engine _) no_tells no_tells no_tells c.in-Ok.ensures.later c.in-Ok.ensures.journal_later
     _ _ _ _ _ _ _
     (c.converse-ending.ensures.passes (run_terms (g.P.Patterns.found c.args.patterns)) false no_tells) (c.converse-ending.ensures.session (run_terms (g.P.Patterns.found c.args.patterns)) false no_tells)

@@ -3,7 +3,7 @@ use Rattle.site_history.specs.Worlds.{site_of, steps_of, at_moment}
 use Rattle.site_history.specs.Turns.{moment_of, Turn}
 use Rattle.site_history.proofs.WorldLaws.{world_kept, world_bytes}
 use Rattle.engine.proofs.Serving.{stands_later, stays_later, moves_from}
-use Rattle.engine.proofs.kept.Engine.serve.Goals as goal
+use Rattle.engine.proofs.engine.Engine.serve.Goals as goal
 
 pub returns-in-Ok-clause-turn : goal.returns-in-Ok-clause-turn
 returns-in-Ok-clause-turn g c = λ terms told tells w stands.

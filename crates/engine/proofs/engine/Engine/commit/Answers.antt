@@ -10,7 +10,7 @@ use Rattle.site_history.specs.Steps.{fields_after, IsLegal}
 use Rattle.site_history.proofs.WorldLaws.{world_kept}
 use Rattle.site_state.specs.Keeps.{Keeps}
 use Rattle.engine.proofs.Committing.{at_end, count_is, keeps_now, records_now, made_moves, owed_moves}
-use Rattle.engine.proofs.kept.Engine.commit.Goals as goal
+use Rattle.engine.proofs.engine.Engine.commit.Goals as goal
 
 pub returns-in-Ok-clause-made : goal.returns-in-Ok-clause-made
 returns-in-Ok-clause-made g c = λ terms told tells w made is ready.
@@ -22,7 +22,7 @@ returns-in-Ok-clause-made g c = λ terms told tells w made is ready.
     (λ t. g.met.B.Bank.sound _ (tells t)) (λ t. g.met.B.Bank.sound _ (tells t))
     (λ t. subst (λ (l : List ℕ). LeavesOnly (g.B.Bank.view c.args.self.now.bank) (g.B.Bank.view c.append.new.bank)
     (IsBeforeOrAfter (g.B.Bank.view c.args.self.now.bank) (written_forms w.history) l c.args.self.now.journal.size)) same
-    (c.in-Ok.ensures.any_moment (tells t) (written_forms w.history) (place t) (holds t)))
+    (c.in-Ok.ensures.any_instant (tells t) (written_forms w.history) (place t) (holds t)))
     (c.count-self.ensures ∙ c.in-Ok.ensures.count.1 ∙ c.in-Ok.ensures.count.0) (c.in-Ok.ensures.count.1 ∙ c.in-Ok.ensures.count.0)
     (c.in-Ok.ensures.place ∙ ap (λ (l : List ℕ). c.args.self.now.journal.place + 5 + length l) same)
     c.requires.ready
@@ -40,6 +40,6 @@ returns-in-Err-BankFault-clause-owed g c = λ terms told tells w made is ready.
     (λ t. g.met.B.Bank.sound _ (tells t)) (λ t. g.met.B.Bank.sound _ (tells t))
     (λ t. subst (λ (l : List ℕ). LeavesOnly (g.B.Bank.view c.args.self.now.bank) (g.B.Bank.view c.append.new.bank)
     (IsBeforeOrAfter (g.B.Bank.view c.args.self.now.bank) (written_forms w.history) l c.args.self.now.journal.size)) same
-    (c.in-Err-BankFault.ensures.any_moment (tells t) (written_forms w.history) (place t)
+    (c.in-Err-BankFault.ensures.any_instant (tells t) (written_forms w.history) (place t)
     (records_now terms told g.B.Bank.view c.args.self.now c.args.self.now w made ready t (g.met.B.Bank.sound _ (tells t)))))
     refl refl

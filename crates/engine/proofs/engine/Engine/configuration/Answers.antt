@@ -3,7 +3,7 @@ use Rattle.configuration.specs.declared.read.Configuration.{Configuration}
 use Rattle.configuration.specs.ConfigurationRules.{Says}
 use Rattle.site_history.specs.Worlds.{site_of}
 use Rattle.site_history.proofs.WorldLaws.{world_kept}
-use Rattle.engine.proofs.kept.Engine.configuration.Goals as goal
+use Rattle.engine.proofs.engine.Engine.configuration.Goals as goal
 
 pub returns-clause-said : goal.returns-clause-said
 returns-clause-said g c = λ terms told w s due.

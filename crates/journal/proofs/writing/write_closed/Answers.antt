@@ -1,8 +1,8 @@
 use Rattle.std.proofs.Common.{◌+◌, length, subst, sym}
 use Rattle.bank.specs.View.{Wrote}
 use Rattle.bank.proofs.Writes.{wrote_nothing, wrote_then}
-use Rattle.journal.proofs.writing.stage.Goals.{then-payload-le-SHORT_MAX+in_ok-write_short, else-payload-le-SHORT_MAX+in_ok-write_long}
-use Rattle.journal.proofs.writing.stage.Goals as goal
+use Rattle.journal.proofs.writing.write_closed.Goals.{then-payload-le-SHORT_MAX+in_ok-write_short, else-payload-le-SHORT_MAX+in_ok-write_long}
+use Rattle.journal.proofs.writing.write_closed.Goals as goal
 
 pub returns-clause-wrote : goal.returns-clause-wrote
 returns-clause-wrote g c = λ told.

@@ -4,7 +4,7 @@ use Rattle.site_history.specs.Histories.{written_forms}
 use Rattle.engine.specs.declared.engine.ShutCause.{ShutCause}
 use Rattle.engine.specs.Journals.{TellsJournal}
 use Rattle.engine.proofs.Standing.{stays, not_bad, recovered}
-use Rattle.engine.proofs.kept.Engine.recover.Goals as goal
+use Rattle.engine.proofs.engine.Engine.recover.Goals as goal
 
 pub returns-in-Ok-clause-recovered : goal.returns-in-Ok-clause-recovered
 returns-in-Ok-clause-recovered g c = λ terms told tells w s due.

@@ -7,7 +7,7 @@ use Rattle.site_events.specs.declared.reply.Reply.TheVariants.{BankFault}
 use Rattle.engine.proofs.Making.{place_it, bytes_stand, made_by, reply_by, plan_answered, plan_may, work_stays, work_moves, failed_is}
 use Rattle.engine.proofs.Replies.{course_goes, no_bad_journal, no_fault}
 use Rattle.engine.proofs.Turning.{stays_here}
-use Rattle.engine.proofs.kept.Engine.make.Goals as goal
+use Rattle.engine.proofs.engine.Engine.make.Goals as goal
 
 pub returns-in_default-clause-turn : goal.returns-in_default-clause-turn
 returns-in_default-clause-turn g c = λ terms told tells w stands event of. (
@@ -91,5 +91,5 @@ returns-in-Ok-commit-clause-served g c =
       journal = λ terms content. no_bad_journal terms content c.in-Ok-do_work.reply named;
       size = c.commit.ensures.size;
       patterns = c.commit.ensures.patterns;
-      moment = λ t. omega (arith, (c.do_work.ensures.wrote t).moments.later, c.commit.ensures.moment t);
+      instant = λ t. omega (arith, (c.do_work.ensures.wrote t).meanwhile.later, c.commit.ensures.instant t);
     }

@@ -8,7 +8,7 @@ use Rattle.decisions.specs.Plans.{IsPlanOf}
 use Rattle.decisions.specs.Needs.{IsPerformable}
 use Rattle.engine.proofs.Replies.{course_goes, no_bad_journal, no_fault}
 use Rattle.engine.proofs.Turning.{stays_here}
-use Rattle.engine.proofs.kept.Engine.perform.Goals as goal
+use Rattle.engine.proofs.engine.Engine.perform.Goals as goal
 
 pub returns-in-Answer-clause-turn : goal.returns-in-Answer-clause-turn
 returns-in-Answer-clause-turn g c = λ terms told tells w stands event of. (
@@ -32,7 +32,7 @@ returns-in-Answer-clause-served g c =
       journal = λ terms content. no_bad_journal terms content c.in-Answer.reply named;
       size = refl;
       patterns = refl;
-      moment = λ t. omega arith;
+      instant = λ t. omega arith;
     }
 
 pub returns-in-Make-clause-turn : goal.returns-in-Make-clause-turn

@@ -1,5 +1,5 @@
 use Rattle.engine.proofs.Serving.{event_at_rest, event_reopened, event_refused, asked_told}
-use Rattle.engine.proofs.kept.Engine.event.Goals as goal
+use Rattle.engine.proofs.engine.Engine.event.Goals as goal
 
 pub returns-in-Ok-clause-turn : goal.returns-in-Ok-clause-turn
 returns-in-Ok-clause-turn g c = λ terms told tells w s.

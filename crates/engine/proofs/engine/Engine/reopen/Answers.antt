@@ -4,7 +4,7 @@ use Rattle.std.proofs.Common.{ℕ, ◌∙◌, subst}
 use Rattle.journal.specs.Records.{HoldsRecords}
 use Rattle.site_history.specs.Histories.{written_forms}
 use Rattle.engine.proofs.Standing.{opened, stands_read, tells_before, holds_before}
-use Rattle.engine.proofs.kept.Engine.reopen.Goals as goal
+use Rattle.engine.proofs.engine.Engine.reopen.Goals as goal
 
 pub returns-in_default-clause-unchanged : goal.returns-in_default-clause-unchanged
 returns-in_default-clause-unchanged g c = λ told. nothing_read _ (g.met.B.Bank.sound _ told)

@@ -12,16 +12,16 @@ started v P sound here = record {
   keeps = λ t c le left. left;
 }
 
--- an image now is one since each earlier moment
-pub since_now : (v : View) (moment : ℕ) (c : Image) → IsSound v → moment ≤ v.moment → IsImage v c → IsSince v moment c
-since_now v moment c sound le image t lt = sound.counts_now t c (omega (arith, le, lt)) image
+-- an image now is one since each earlier instant
+pub since_now : (v : View) (instant : ℕ) (c : Image) → IsSound v → instant ≤ v.instant → IsImage v c → IsSince v instant c
+since_now v instant c sound le image t lt = sound.counts_now t c (omega (arith, le, lt)) image
 
 -- one call
 pub one_call : (old new : View) (P : Image → Type 0) → IsSound old → IsSound new → Elapses old new → ((c : Image) → IsImage old c → P c) → ((c : Image) → IsImage new c → P c) → LeavesOnly old new P
 one_call old new P sound sound_then time was now = record {
   later = time.later;
-  each = λ c left. ⊎_elim (λ h. was c (sound.only_now c h)) (now c) (time.nothing_else old.moment c (omega arith) left);
-  before = λ t c le left. ⊎_elim (λ h. inl h) (λ image. inr (now c image, since_now new old.moment c sound_then time.later image)) (time.nothing_else t c le left);
+  each = λ c left. ⊎_elim (λ h. was c (sound.only_now c h)) (now c) (time.nothing_else old.instant c (omega arith) left);
+  before = λ t c le left. ⊎_elim (λ h. inl h) (λ image. inr (now c image, since_now new old.instant c sound_then time.later image)) (time.nothing_else t c le left);
   keeps = time.keeps;
 }
 
@@ -29,7 +29,7 @@ one_call old new P sound sound_then time was now = record {
 pub joined : (old mid new : View) (P : Image → Type 0) → LeavesOnly old mid P → LeavesOnly mid new P → LeavesOnly old new P
 joined old mid new P first second = record {
   later = omega (arith, first.later, second.later);
-  each = λ c left. ⊎_elim (first.each c) (λ p. p.0) (second.before old.moment c first.later left);
+  each = λ c left. ⊎_elim (first.each c) (λ p. p.0) (second.before old.instant c first.later left);
   before = λ t c le left. ⊎_elim
       (λ was. ⊎_elim (λ h. inl h) (λ p. inr (p.0, λ s lt. second.keeps s c (omega (arith, lt, first.later)) (p.1 s lt))) (first.before t c le was))
       (λ p. inr (p.0, λ s lt. p.1 s (omega (arith, lt, first.later))))
