@@ -1,5 +1,6 @@
 -- What a plan has, so that it can be performed.
 use Rattle.std.specs.Prelude.{◌≤◌}
+use Rattle.base.specs.declared.limits.TheConstants.{PAYLOAD_MAX}
 use Rattle.step_codec.specs.Lengths.{step_length}
 use Rattle.step_codec.specs.Written.{InRange}
 use Rattle.cache_space.specs.Space.{AreMaximal}
@@ -22,7 +23,7 @@ NamesNoFault (Load runs buffer) = Unit {0}
 -- that its making needs is there.
 pub record IsRecordable (state : SiteState) (prepared : Prepared) : Type 0 where
   pub range : InRange prepared.step
-  pub short : step_length prepared.step ≤ 1048576
+  pub short : step_length prepared.step ≤ PAYLOAD_MAX
   pub maximal : AreMaximal (put_runs prepared.step)
   pub memory : IsPrepared state prepared
 

@@ -1,11 +1,12 @@
 //! Configurations.
 
-ghost use Rattle.std.specs.Prelude.{◌<◌, ◌^◌, IfOk};
+ghost use Rattle.std.specs.Prelude.{◌<◌, IfOk};
 ghost use Rattle.site_events.specs.declared.event.Event.TheVariants.{Configure as ConfigureEvent};
 ghost use Rattle.decisions.specs.Plans.{Answers};
 ghost use Rattle.decisions.specs.Needs.{IsPerformable};
 
 use crate::plan::{Plan, Work};
+use base::END_OF_TIME;
 use configuration::ConfigurationError;
 use site_events::Reply;
 use site_state::{Prepared, Setting, SiteState};
@@ -19,7 +20,7 @@ pub fn plan_configuration(
     moment: u64,
     texts: SiteTexts,
 ) -> Result<Plan, AllocError>
-    requires { moment < 2 ^ 40 }
+    requires { moment < END_OF_TIME }
     ensures answers { IfOk result (Answers site.now moment (ConfigureEvent texts)) }
     ensures performable { IfOk result (IsPerformable site.now) }
 {

@@ -1,6 +1,6 @@
 //! The table of events.
 
-ghost use Rattle.std.specs.Prelude.{◌<◌, ◌^◌, IfOk};
+ghost use Rattle.std.specs.Prelude.{◌<◌, IfOk};
 ghost use Rattle.site_history.specs.Site.{Fields};
 ghost use Rattle.site_state.specs.Keeps.{Keeps};
 ghost use Rattle.decisions.specs.Plans.{Answers};
@@ -9,6 +9,7 @@ ghost use Rattle.decisions.specs.Needs.{IsPerformable};
 use crate::configurations::plan_configuration;
 use crate::files::{plan_put, plan_read, plan_removal};
 use crate::plan::Plan;
+use base::END_OF_TIME;
 use site_events::{Event, LineRefusal, Reply};
 use site_state::SiteState;
 use std::alloc::{AllocError, Global};
@@ -21,7 +22,7 @@ pub fn decide(
     event: Event,
     moment: u64,
 ) -> Result<Plan, AllocError>
-    requires { moment < 2 ^ 40 }
+    requires { moment < END_OF_TIME }
     ensures answers { IfOk result (Answers site.old moment event) }
     ensures performable { IfOk result (IsPerformable site.new) }
     ensures keeps { (fields : Fields) → Keeps site.old fields → Keeps site.new fields }

@@ -1,6 +1,6 @@
 //! Puts, reads and removals.
 
-ghost use Rattle.std.specs.Prelude.{◌<◌, ◌^◌, IfOk};
+ghost use Rattle.std.specs.Prelude.{◌<◌, IfOk};
 ghost use Rattle.site_events.specs.declared.event.Event.TheVariants.{Put as PutEvent, Read as ReadEvent, Remove as RemoveEvent};
 ghost use Rattle.site_history.specs.Site.{Fields};
 ghost use Rattle.site_state.specs.Keeps.{Keeps};
@@ -8,7 +8,7 @@ ghost use Rattle.decisions.specs.Plans.{Answers};
 ghost use Rattle.decisions.specs.Needs.{IsPerformable};
 
 use crate::plan::{Plan, Work};
-use base::{Bytes, List};
+use base::{Bytes, END_OF_TIME, List};
 use site_events::{Reply, Rule};
 use site_state::{Prepared, SiteState};
 use site_types::{PutStep, Step, StepKind};
@@ -23,7 +23,7 @@ pub fn plan_put(
     group: Bytes,
     bytes: Bytes,
 ) -> Result<Plan, AllocError>
-    requires { moment < 2 ^ 40 }
+    requires { moment < END_OF_TIME }
     ensures answers { IfOk result (Answers site.old moment (PutEvent path owner group bytes)) }
     ensures performable { IfOk result (IsPerformable site.new) }
     ensures keeps { (fields : Fields) → Keeps site.old fields → Keeps site.new fields }
@@ -63,7 +63,7 @@ pub fn plan_read(
     path: Bytes,
     upto: u32,
 ) -> Result<Plan, AllocError>
-    requires { moment < 2 ^ 40 }
+    requires { moment < END_OF_TIME }
     ensures answers { IfOk result (Answers site.now moment (ReadEvent path upto)) }
     ensures performable { IfOk result (IsPerformable site.now) }
 {
@@ -87,7 +87,7 @@ pub fn plan_read(
 
 /// Plans how the file of a path is removed.
 pub fn plan_removal(site: &SiteState, moment: u64, path: Bytes) -> Plan
-    requires { moment < 2 ^ 40 }
+    requires { moment < END_OF_TIME }
     ensures answers { Answers site.now moment (RemoveEvent path) result }
     ensures performable { IsPerformable site.now result }
 {

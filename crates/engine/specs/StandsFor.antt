@@ -1,5 +1,6 @@
 -- What an engine stands for, and how an event moves it.
-use Rattle.std.specs.Prelude.{◌≡◌, ◌<◌, ◌^◌, ◌≤◌, Bool, false, IsTrue, None, Some}
+use Rattle.std.specs.Prelude.{◌≡◌, ◌<◌, ◌≤◌, Bool, false, IsTrue, None, Some}
+use Rattle.base.specs.declared.limits.TheConstants.{END_OF_TIME}
 use Rattle.bank.specs.Content.{Image}
 use Rattle.bank.specs.View.{View, IsImage, LeavesOnly}
 use Rattle.site_history.specs.Terms.{Terms}
@@ -28,7 +29,7 @@ pub record StandsFor (terms : Terms) {B P : Type 0} (told : Bool) (view : B → 
   pub clock : engine.clock ≡ w.clock
   pub in_time : (site_of terms w).fields.moment ≤ w.clock
   pub owed_in_time : (made : HistoryStep) → w.owed ≡ Some made → made.step.moment ≤ w.clock
-  pub range : w.clock < 2 ^ 40
+  pub range : w.clock < END_OF_TIME
   pub due : engine.due ≡ w.due
   pub in_step : engine.due ≡ false → (w.owed ≡ None) × IsInStep terms engine w
   pub size : engine.journal.size ≡ terms.size

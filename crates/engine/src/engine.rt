@@ -1,6 +1,7 @@
 //! Events over a store.
 
-ghost use Rattle.std.specs.Prelude.{◌≡◌, ◌≢◌, ◌≤◌, ◌<◌, ◌^◌, false, true, IfOk, IfErr, MatchResult, IsTrue, OnOk, OnErr, Bool, List};
+ghost use Rattle.std.specs.Prelude.{◌≡◌, ◌≢◌, ◌≤◌, ◌<◌, false, true, IfOk, IfErr, MatchResult, IsTrue, OnOk, OnErr, Bool, List};
+ghost use Rattle.base.specs.declared.limits.TheConstants.{END_OF_TIME};
 ghost use Rattle.site_history.specs.Terms.{Terms};
 ghost use Rattle.base.specs.Causes.{Rose};
 ghost use Rattle.bank.specs.Content.{Content};
@@ -20,6 +21,7 @@ ghost use Rattle.engine.specs.Served.{IsServed};
 
 use crate::reopen::read_site;
 use bank::Bank;
+use base::{END_OF_TIME, JOURNAL_SIZE_MAX, PAYLOAD_MAX};
 use configuration::Configuration;
 use decisions::decide;
 use journal::Journal;
@@ -28,10 +30,7 @@ use site_state::SiteState;
 use std::alloc::Global;
 
 /// The last moment, in seconds.
-const LAST_MOMENT: u64 = (1 << 40) - 1;
-
-/// The longest payload of a record, in bytes.
-const PAYLOAD_MAX: usize = 1_048_576;
+const LAST_MOMENT: u64 = END_OF_TIME - 1;
 
 /// A site over a store.
 #[derive(Drop)]
@@ -49,7 +48,7 @@ pub struct Engine<B, P> {
     pub clock: u64,
     /// Whether the journal is to be read again before the next event.
     pub due: bool,
-    pub ghost range: { clock < 2 ^ 40 },
+    pub ghost range: { clock < END_OF_TIME },
 }
 
 /// Why a store was not opened.
@@ -80,7 +79,7 @@ impl<B: Bank, P: Drop> Engine<B, P> {
         patterns: P,
         journal_bytes: u64,
     ) -> Result<Engine<B, P>, Shut<B, P>>
-        requires { journal_bytes ≤ 268435456 }
+        requires { journal_bytes ≤ JOURNAL_SIZE_MAX }
         // It stands for the world of the history for which the store is settled; where the store tells nothing for some world.
         ensures stands { (terms : Terms) → journal_bytes ≡ terms.size → (told : Bool) → (IsTrue told → IsTrue B.tells) → (before : List HistoryStep) → (IsTrue told → IsSettled terms (B.view bank) before)
             → IfOk result (λ engine. (found : World) × IsFound terms told before found × StandsFor terms told B.view engine found) }
@@ -97,7 +96,7 @@ impl<B: Bank, P: Drop> Engine<B, P> {
         ensures journal_later { MatchResult result (λ engine. B.journal_faults bank ≤ B.journal_faults engine.bank) (λ shut. B.journal_faults bank ≤ B.journal_faults shut.bank) }
         ensures patterns { MatchResult result (λ engine. engine.patterns ≡ patterns) (λ shut. shut.patterns ≡ patterns) }
     {
-        let Ok(payload) = Vec::with_capacity(alloc, PAYLOAD_MAX) else {
+        let Ok(payload) = Vec::with_capacity(alloc, PAYLOAD_MAX as usize) else {
             return Err(Shut {
                 refusal: ShutCause::NoMemory,
                 bank,

@@ -13,6 +13,7 @@ ghost use Rattle.engine.specs.Counts.{IsShutFor};
 
 use crate::engine::ShutCause;
 use bank::Bank;
+use base::JOURNAL_SIZE_MAX;
 use journal::{Found, Journal, JournalRefusal, Reader};
 use site_state::{ReplayRefusal, SiteState};
 use std::alloc::Global;
@@ -55,7 +56,7 @@ pub fn read_site<B: Bank>(
     bank: &mut B,
     size: u64,
 ) -> Result<(Journal, SiteState), ShutCause>
-    requires { size ≤ 268435456 }
+    requires { size ≤ JOURNAL_SIZE_MAX }
     // The journal and the files are those of a history, whose records the journal's area holds.
     ensures read { (terms : Terms) → IfOk result (λ r. (steps : Seq HistoryStep) × IsReplayed terms r.0 r.1 steps × (IsTrue B.tells → HoldsRecords ((B.view bank.new).content 0) 0 (written_forms steps) size)) }
     ensures size { IfOk result (λ r. r.0.size ≡ size) }

@@ -3,7 +3,7 @@
 ghost use Rattle.std.specs.Prelude.{◌≤◌};
 
 use bank::{BankCall, FailAt, MemoryBank};
-use base::{Bytes, List};
+use base::{Bytes, JOURNAL_SIZE_MAX, List};
 use engine::Engine;
 use site_events::{Event, Reply};
 use site_types::SiteTexts;
@@ -100,7 +100,7 @@ fn served(
     journal_bytes: u64,
     rows: &[Row<'_>],
 ) -> Left
-    requires { journal_bytes ≤ 268435456 }
+    requires { journal_bytes ≤ JOURNAL_SIZE_MAX }
 {
     let Ok(mut engine) = Engine::reopen(alloc, bank, 0u8, journal_bytes) else {
         panic!(rt; "not reopened");

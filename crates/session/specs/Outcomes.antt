@@ -2,6 +2,7 @@
 use Rattle.std.specs.Prelude.{◌≡◌, ◌≤◌, ◌<◌, ◌⊎◌, ℕ, List, [], ◌++◌, length, Bool, true, IsTrue, None, IfSome}
 use Rattle.std.specs.List.{list_all}
 use Rattle.std.specs.Io.KnownBytes.{Appends, IsAtEnd}
+use Rattle.base.specs.declared.limits.TheConstants.{JOURNAL_SIZE_MAX}
 use Rattle.base.specs.Causes.{Rose}
 use Rattle.outside.specs.Streams.{IsWritten}
 use Rattle.bank.specs.Content.{Content}
@@ -25,7 +26,7 @@ use Rattle.session.specs.declared.kept.Mark.{Mark}
 
 -- the size of the journal's area, in bytes
 abbrev pub journal_bytes : ℕ
-journal_bytes = 268435456
+journal_bytes = JOURNAL_SIZE_MAX
 
 -- the terms of a run, with these patterns
 abbrev pub run_terms : (List ℕ → List ℕ → Bool) → Terms

@@ -19,7 +19,7 @@ use crate::lines::Lines;
 use crate::protocol::Protocol;
 use crate::round::{first_cause, one_round};
 use bank::Bank;
-use base::List;
+use base::{JOURNAL_SIZE_MAX, List};
 use desk::write_bad_journal;
 use engine::{Engine, Shut, ShutCause};
 use input::Reader;
@@ -27,7 +27,7 @@ use outside::{Clock, Folder, Patterns, Sink, Source};
 use std::alloc::Global;
 
 /// The size of the journal's area, in bytes.
-const JOURNAL_BYTES: u64 = 268_435_456;
+const JOURNAL_BYTES: u64 = JOURNAL_SIZE_MAX;
 
 /// What a run hands back.
 #[derive(Drop)]

@@ -1,5 +1,6 @@
 -- Puts, reads and removals: what each is answered, and the step that it makes.
 use Rattle.std.specs.Prelude.{ℕ, ◌&&◌, ◌||◌, nat_le, nat_lt, Bool, not, if◌then◌else◌, Option, Some, None, is_none, List, length, take}
+use Rattle.base.specs.declared.limits.TheConstants.{FILE_COUNT_MAX, FILE_SIZE_MAX, INODE_MAX}
 use Rattle.site_events.specs.declared.reply.Reply.TheVariants.{Stored, Done, Bytes}
 use Rattle.site_events.specs.declared.reply.Rule.{Rule}
 use Rattle.site_events.specs.declared.reply.Rule.TheVariants.{NoFile, BadPath, BadAttribute, TooLarge, TooMany, NoSpace}
@@ -35,7 +36,7 @@ put_step fields moment path owner group bytes = record { step = put_made fields 
 
 -- a further file does not fit: 65,536 files are there, or the inode numbers are used up
 abbrev pub is_full : Fields → Bool
-is_full fields = nat_le 65536 (length fields.files) || nat_lt 4294967294 fields.next_inode
+is_full fields = nat_le FILE_COUNT_MAX (length fields.files) || nat_lt INODE_MAX fields.next_inode
 
 -- fewer blocks are free than so many bytes need
 abbrev pub lacks_space : Fields → ℕ → Bool
@@ -46,7 +47,7 @@ abbrev pub put_rule : Fields → List ℕ → List ℕ → List ℕ → ℕ → 
 put_rule fields path owner group size =
     if not (is_legal_path path) then Some BadPath else
     if not (is_legal_name owner && is_legal_name group) then Some BadAttribute else
-    if nat_lt 16777216 size then Some TooLarge else
+    if nat_lt FILE_SIZE_MAX size then Some TooLarge else
     if is_none (file_at path fields.files) && is_full fields then Some TooMany else
     if lacks_space fields size then Some NoSpace else None
 

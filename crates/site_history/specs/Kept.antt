@@ -1,6 +1,7 @@
 -- What holds of the fields of a site after so many steps of any history.
-use Rattle.std.specs.Prelude.{◌≡◌, ℕ, ◌+◌, ◌<◌, ◌≤◌, ◌^◌, IsTrue, List, [], ◌∷◌, length}
+use Rattle.std.specs.Prelude.{◌≡◌, ℕ, ◌+◌, ◌<◌, ◌≤◌, IsTrue, List, [], ◌∷◌, length}
 use Rattle.std.specs.List.{AllByRecursion}
+use Rattle.base.specs.declared.limits.TheConstants.{CACHE_BLOCKS_MAX, END_OF_TIME, FILE_COUNT_MAX, FILE_SIZE_MAX, INODE_MAX}
 use Rattle.base.specs.Paths.{is_legal_path, is_legal_name}
 use Rattle.site_types.specs.declared.file.FileRec.{FileRec}
 use Rattle.configuration.specs.ConfigurationRules.{Says}
@@ -24,7 +25,7 @@ pub record IsFileKept (count moment : ℕ) (file : FileRec) : Type 0 where
   pub owner : IsTrue (is_legal_name file.owner)
   pub group : IsTrue (is_legal_name file.group)
   pub cached : file.cached ≡ file.length
-  pub small : file.length ≤ 16777216
+  pub small : file.length ≤ FILE_SIZE_MAX
   pub maximal : AreMaximal file.runs
   pub blocks : blocks_in file.runs ≡ blocks_for file.length
   pub from_one : 1 ≤ file.generation
@@ -40,16 +41,16 @@ pub record IsKept (count : ℕ) (fields : Fields) : Type 0 where
   pub rising : AreRisingFrom 1 fields.files
   pub below : AreBelow fields.next_inode fields.files
   pub from_one : 1 ≤ fields.next_inode
-  pub small : fields.next_inode ≤ 4294967295
-  pub few : length fields.files ≤ 65536
+  pub small : fields.next_inode ≤ INODE_MAX + 1
+  pub few : length fields.files ≤ FILE_COUNT_MAX
   pub files : AllByRecursion (IsFileKept count fields.moment) fields.files
   pub there : AreThere (cache_blocks fields) (held_runs fields.files)
   pub disjoint : AreDisjoint (held_runs fields.files)
   pub volumes : fields.volumes ≡ fresh_volumes fields.configuration.site
   pub queue : fields.queue ≡ []
-  pub moment : fields.moment < 2 ^ 40
+  pub moment : fields.moment < END_OF_TIME
   pub configured : Says fields.texts fields.configuration
-  pub blocks : (1 ≤ cache_blocks fields) × (cache_blocks fields ≤ 16777216)
+  pub blocks : (1 ≤ cache_blocks fields) × (cache_blocks fields ≤ CACHE_BLOCKS_MAX)
 
 -- each file has as many bytes as its length says
 abbrev pub HaveAllBytes : Site → Type 0

@@ -1,6 +1,7 @@
 -- A put: the file that it leaves, when it may come, and the bytes that it needs in the store.
 use Rattle.std.specs.Prelude.{◌≡◌, ℕ, ◌+◌, ◌<◌, ◌≤◌, IsTrue, Option, Some, None, List, length, MatchOption}
 use Rattle.std.specs.Option.{option_map_or}
+use Rattle.base.specs.declared.limits.TheConstants.{FILE_COUNT_MAX, FILE_SIZE_MAX, INODE_MAX}
 use Rattle.site_types.specs.declared.file.FileRec.{FileRec}
 use Rattle.site_types.specs.declared.file.ReleaseKind.{ReleaseKind}
 use Rattle.site_types.specs.declared.file.StageKind.{StageKind}
@@ -72,9 +73,9 @@ pub record IsLegalPut (fields : Fields) (put : PutStep) : Type 0 where
   pub path : IsTrue (is_legal_path put.path)
   pub owner : IsTrue (is_legal_name put.owner)
   pub group : IsTrue (is_legal_name put.group)
-  pub small : put.length ≤ 16777216
+  pub small : put.length ≤ FILE_SIZE_MAX
   pub inode : put.inode ≡ inode_for fields put.path
-  pub fits : MatchOption (file_at put.path fields.files) ((length fields.files < 65536) × (fields.next_inode ≤ 4294967294)) (λ _. Unit {0})
+  pub fits : MatchOption (file_at put.path fields.files) ((length fields.files < FILE_COUNT_MAX) × (fields.next_inode ≤ INODE_MAX)) (λ _. Unit {0})
   pub maximal : AreMaximal put.runs
   pub free : AreFree (cache_blocks fields) (held_runs fields.files) put.runs
   pub blocks : blocks_in put.runs ≡ blocks_for put.length

@@ -1,5 +1,6 @@
 -- What one event does to a world, and where a reopening leads.
-use Rattle.std.specs.Prelude.{◌≡◌, ◌⊎◌, ℕ, ◌+◌, ◌-◌, ◌^◌, min, max, ◌==◌, nat_le, Bool, true, false, if◌then◌else◌, Option, Some, None, List, length}
+use Rattle.std.specs.Prelude.{◌≡◌, ◌⊎◌, ℕ, ◌+◌, ◌-◌, min, max, ◌==◌, nat_le, Bool, true, false, if◌then◌else◌, Option, Some, None, List, length}
+use Rattle.base.specs.declared.limits.TheConstants.{END_OF_TIME}
 use Rattle.bank.specs.Content.{Content}
 use Rattle.step_codec.specs.Written.{written}
 use Rattle.site_events.specs.declared.event.Event.{Event}
@@ -17,7 +18,7 @@ use Rattle.site_history.specs.Worlds.{World, site_of, at, new_world, IsFreshWorl
 
 -- the moment of an event: the clock never goes back, and moments are below 2^40
 abbrev pub moment_of : ℕ → ℕ → ℕ
-moment_of clock now = max clock (min now (2 ^ 40 - 1))
+moment_of clock now = max clock (min now (END_OF_TIME - 1))
 
 -- whether the journal has room for the record of a further step at this place, and for the closed gate behind it
 abbrev pub has_room : Terms → ℕ → Option HistoryStep → Bool

@@ -19,12 +19,13 @@ ghost use Rattle.site_state.specs.Keeps.{Keeps};
 use crate::prepare::{Prepared, Setting};
 use crate::state::SiteState;
 use crate::stored::new_file;
+use base::END_OF_TIME;
 use site_types::{PutStep, Step, StepKind};
 
 impl SiteState {
     // Keeps what a put stores. A replaced file's runs are free once the new ones are held.
     fn apply_put(&mut self, moment: u64, put: PutStep)
-        requires range { moment < 2 ^ 40 }
+        requires range { moment < END_OF_TIME }
         requires inode { IsInode put.inode }
         requires room { file_at put.path self.old.files.list ≡ None → 0 < self.old.files.room }
         ensures { (terms : Terms) (count : ℕ) (fields : Fields) → IsKept count fields → count + 1 < 2 ^ 64 → Keeps self.old fields → IsLegalPut fields put
@@ -47,7 +48,7 @@ impl SiteState {
 
     // Keeps that a file was read.
     fn apply_access(&mut self, moment: u64, inode: u32)
-        requires range { moment < 2 ^ 40 }
+        requires range { moment < END_OF_TIME }
         ensures { (count : ℕ) (fields : Fields) → IsKept count fields → Keeps self.old fields → IsThere fields inode
             → Keeps self.new (dated moment (accessed_effect moment inode fields)) }
     {
@@ -59,7 +60,7 @@ impl SiteState {
 
     // Keeps that a file is gone, and frees its runs.
     fn apply_removal(&mut self, moment: u64, inode: u32)
-        requires range { moment < 2 ^ 40 }
+        requires range { moment < END_OF_TIME }
         ensures { (count : ℕ) (fields : Fields) → IsKept count fields → Keeps self.old fields → IsThere fields inode
             → Keeps self.new (dated moment (removed_effect inode fields)) }
     {
@@ -72,7 +73,7 @@ impl SiteState {
 
     // Keeps what a configuration brings, where no file is.
     fn apply_setting(&mut self, moment: u64, setting: Setting)
-        requires range { moment < 2 ^ 40 }
+        requires range { moment < END_OF_TIME }
         ensures { (fields : Fields) (texts : SiteTexts) → Keeps self.old fields → fields.files ≡ [] → IsSettingOf texts setting
             → Keeps self.new (dated moment (configured_effect texts fields)) }
     {

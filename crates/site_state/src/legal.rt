@@ -13,19 +13,10 @@ ghost use Rattle.site_state.specs.Legal.{IsLegalSoFar, AreTextsWithin};
 ghost use Rattle.site_state.specs.Keeps.{Keeps};
 
 use crate::state::SiteState;
-use base::{is_legal_name, is_legal_path};
+use base::{FILE_COUNT_MAX, FILE_SIZE_MAX, INODE_MAX, is_legal_name, is_legal_path};
 use cache_space::{are_maximal, blocks_needed, have_blocks};
 use configuration::are_within;
 use site_types::{Run, Step, StepKind};
-
-/// The most bytes of a file.
-pub const FILE_MAX: u64 = 16_777_216;
-
-/// How many files there may be.
-pub const FILES_MAX: usize = 65_536;
-
-/// The greatest inode.
-pub const INODE_MAX: u32 = 4_294_967_294;
 
 // Whether a file may have this path, and it these names.
 fn are_legal(path: &[u8], owner: &[u8], group: &[u8]) -> bool
@@ -37,15 +28,15 @@ fn are_legal(path: &[u8], owner: &[u8], group: &[u8]) -> bool
 impl SiteState {
     // Whether a further file fits.
     fn has_place(&self) -> bool
-        ensures { (fields : Fields) → Keeps self.now fields → (IsTrue result ↔ ((length fields.files < 65536) × (fields.next_inode ≤ 4294967294))) }
+        ensures { (fields : Fields) → Keeps self.now fields → (IsTrue result ↔ ((length fields.files < FILE_COUNT_MAX) × (fields.next_inode ≤ INODE_MAX))) }
     {
-        self.files.len() < FILES_MAX && self.next_inode <= INODE_MAX
+        self.files.len() < FILE_COUNT_MAX && self.next_inode <= INODE_MAX
     }
 
     // Whether a put of this path has this inode: that of the path's file, or the next one, where a further file fits.
     fn takes_inode(&self, inode: u32, path: &[u8]) -> bool
         ensures { (fields : Fields) → Keeps self.now fields → (IsTrue result
-            ↔ ((inode ≡ inode_for fields path.now) × MatchOption (file_at path.now fields.files) ((length fields.files < 65536) × (fields.next_inode ≤ 4294967294)) (λ _. Unit {0}))) }
+            ↔ ((inode ≡ inode_for fields path.now) × MatchOption (file_at path.now fields.files) ((length fields.files < FILE_COUNT_MAX) × (fields.next_inode ≤ INODE_MAX)) (λ _. Unit {0}))) }
     {
         match self.files.find(path) {
             Some(index) => inode == self.files.as_slice()[index].inode,
@@ -56,9 +47,9 @@ impl SiteState {
     // Whether these runs are maximal runs of free blocks, as many as so many bytes need.
     fn takes_runs(&self, size: u64, runs: &[Run]) -> bool
         ensures { (fields : Fields) → Keeps self.now fields → (IsTrue result
-            ↔ ((size ≤ 16777216) × AreMaximal runs.now × AreFree (cache_blocks fields) (held_runs fields.files) runs.now × (blocks_in runs.now ≡ blocks_for size))) }
+            ↔ ((size ≤ FILE_SIZE_MAX) × AreMaximal runs.now × AreFree (cache_blocks fields) (held_runs fields.files) runs.now × (blocks_in runs.now ≡ blocks_for size))) }
     {
-        size <= FILE_MAX
+        size <= FILE_SIZE_MAX
             && are_maximal(runs)
             && self.space.all_free(runs)
             && have_blocks(runs, blocks_needed(size as u32))

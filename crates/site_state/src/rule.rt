@@ -12,9 +12,8 @@ ghost use Rattle.site_history.specs.FileAnswers.{put_rule, is_full, lacks_space}
 ghost use Rattle.site_history.specs.ConfigureAnswers.{configure_refusal, conf_refused};
 ghost use Rattle.site_state.specs.Keeps.{Keeps};
 
-use crate::legal::{FILE_MAX, FILES_MAX, INODE_MAX};
 use crate::state::SiteState;
-use base::{is_legal_name, is_legal_path};
+use base::{FILE_COUNT_MAX, FILE_SIZE_MAX, INODE_MAX, is_legal_name, is_legal_path};
 use cache_space::blocks_needed;
 use configuration::are_within;
 use site_events::Rule;
@@ -40,10 +39,10 @@ impl SiteState {
 
     // Whether a further file does not fit.
     fn is_full(&self) -> bool
-        ensures inode { result ≡ false → self.now.next_inode ≤ 4294967294 }
+        ensures inode { result ≡ false → self.now.next_inode ≤ INODE_MAX }
         ensures full { (fields : Fields) → Keeps self.now fields → result ≡ is_full fields }
     {
-        self.files.len() >= FILES_MAX || self.next_inode > INODE_MAX
+        self.files.len() >= FILE_COUNT_MAX || self.next_inode > INODE_MAX
     }
 
     // Whether fewer blocks are free than so many bytes need.
@@ -57,8 +56,8 @@ impl SiteState {
     fn put_rule(&self, path: &[u8], owner: &[u8], group: &[u8], size: usize) -> Option<Rule>
         ensures rule { (fields : Fields) → Keeps self.now fields → result ≡ put_rule fields path.now owner.now group.now size }
         ensures legal { IfNone result (IsTrue (is_legal_path path.now) × IsTrue (is_legal_name owner.now) × IsTrue (is_legal_name group.now)) }
-        ensures small { IfNone result (size ≤ 16777216) }
-        ensures inode { IfNone result (file_at path.now self.now.files.list ≡ None → self.now.next_inode ≤ 4294967294) }
+        ensures small { IfNone result (size ≤ FILE_SIZE_MAX) }
+        ensures inode { IfNone result (file_at path.now self.now.files.list ≡ None → self.now.next_inode ≤ INODE_MAX) }
     {
         if !is_legal_path(path) {
             return Some(Rule::BadPath);
@@ -66,7 +65,7 @@ impl SiteState {
         if !(is_legal_name(owner) && is_legal_name(group)) {
             return Some(Rule::BadAttribute);
         }
-        if size as u64 > FILE_MAX {
+        if size as u64 > FILE_SIZE_MAX {
             return Some(Rule::TooLarge);
         }
         if self.is_new(path) && self.is_full() {
@@ -80,7 +79,7 @@ impl SiteState {
 
     // The inode of a put of this path, and whether its file is new.
     fn inode_of(&self, path: &[u8]) -> (u32, bool)
-        requires { file_at path.now self.now.files.list ≡ None → self.now.next_inode ≤ 4294967294 }
+        requires { file_at path.now self.now.files.list ≡ None → self.now.next_inode ≤ INODE_MAX }
         ensures inode { (fields : Fields) → Keeps self.now fields → result.0 ≡ inode_for fields path.now }
         ensures created { (fields : Fields) → Keeps self.now fields → result.1 ≡ is_none (file_at path.now fields.files) }
         ensures range { IsInode result.0 }
@@ -103,7 +102,7 @@ impl SiteState {
         ensures admitted { (fields : Fields) → Keeps self.now fields → OnOk result (put_rule fields path.now owner.now group.now size ≡ None) }
         ensures place { (fields : Fields) → Keeps self.now fields → IfOk result (λ place. (place.inode ≡ inode_for fields path.now) × (place.created ≡ is_none (file_at path.now fields.files))) }
         ensures legal { OnOk result (IsTrue (is_legal_path path.now) × IsTrue (is_legal_name owner.now) × IsTrue (is_legal_name group.now)) }
-        ensures small { OnOk result (size ≤ 16777216) }
+        ensures small { OnOk result (size ≤ FILE_SIZE_MAX) }
         ensures inode { IfOk result (λ place. IsInode place.inode) }
     {
         if let Some(rule) = self.put_rule(path, owner, group, size) {

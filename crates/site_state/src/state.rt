@@ -1,6 +1,7 @@
 //! What a site keeps in memory.
 
-ghost use Rattle.std.specs.Prelude.{◌≤◌, ◌<◌, ◌^◌};
+ghost use Rattle.std.specs.Prelude.{◌≤◌, ◌<◌};
+ghost use Rattle.base.specs.declared.limits.TheConstants.{END_OF_TIME};
 
 use crate::files::Files;
 use cache_space::CacheSpace;
@@ -18,5 +19,5 @@ pub struct SiteState {
     pub configuration: Configuration,
     pub space: CacheSpace,
     pub ghost from_one: { 1 ≤ next_inode },
-    pub ghost range: { moment < 2 ^ 40 },
+    pub ghost range: { moment < END_OF_TIME },
 }
