@@ -1,10 +1,11 @@
 //! What no clause says: that the calls succeed, and texts made by hand from the forms of the five files.
 
-use base::{Bytes, List};
+use base::Bytes;
 use configuration::{
     Configuration, ConfigurationError, FileRefusal, are_within, read_configuration, read_texts,
 };
-use outside::{FolderFault, MemoryFolder, NamedText};
+use fixtures::{File, folder_of};
+use outside::{FolderFault, MemoryFolder};
 use site_events::CommandFile;
 use site_text::ConfFault;
 use site_types::SiteTexts;
@@ -23,18 +24,13 @@ const NAMES: [&[u8]; 5] = [
 
 /// The text of each file is its own name; one is absent, and the call with this number fails.
 fn folder(alloc: Global, absent: &[u8], failing: u64) -> Result<MemoryFolder, AllocError> {
-    let mut texts = List::new(alloc);
+    let mut files: Vec<File<'_>> = Vec::new(alloc);
     for name in NAMES {
         if name != absent {
-            texts.push(NamedText {
-                name: Bytes::from_slice(alloc, name)?,
-                text: Bytes::from_slice(alloc, name)?,
-            })?;
+            files.push((name, name))?;
         }
     }
-    let mut numbers = List::new(alloc);
-    numbers.push(failing)?;
-    Ok(MemoryFolder::new(alloc, texts, numbers))
+    folder_of(alloc, &files, &[failing])
 }
 
 /// The texts, each behind a `|`.
@@ -96,16 +92,6 @@ fn a_call_that_fails_ends_it(rt: HostRuntime) -> Result<(), Fail> {
     Ok(())
 }
 
-/// A folder whose stager.cmd alone is there, with so many bytes.
-fn long_folder(alloc: Global, length: usize) -> Result<MemoryFolder, AllocError> {
-    let mut texts = List::new(alloc);
-    texts.push(NamedText {
-        name: Bytes::from_slice(alloc, b"stager.cmd")?,
-        text: Bytes::from_vec(vec![in alloc; 35; length]?),
-    })?;
-    Ok(MemoryFolder::new(alloc, texts, List::new(alloc)))
-}
-
 #[test]
 fn a_long_text_is_cut_one_byte_past_the_most(rt: HostRuntime) -> Result<(), Fail> {
     for (length, want, fits) in [
@@ -113,7 +99,8 @@ fn a_long_text_is_cut_one_byte_past_the_most(rt: HostRuntime) -> Result<(), Fail
         (65_537, 65_537, false),
         (70_000, 65_537, false),
     ] {
-        let mut folder = long_folder(rt.alloc(), length)?;
+        let text = vec![in rt.alloc(); 35; length]?;
+        let mut folder = folder_of(rt.alloc(), &[(b"stager.cmd", &text)], &[])?;
         let texts = read_texts(rt.alloc(), &mut folder)?;
         assert_eq!(rt; texts.stager.len(), want);
         assert_eq!(rt; are_within(&texts), fits);

@@ -1,6 +1,7 @@
 //! The lines of hand-made texts.
 
-use base::{Bytes, List};
+use base::Bytes;
+use fixtures::numbers;
 use input::{LineRead, Reader, next_line};
 use outside::MemorySource;
 use std::alloc::{AllocError, Global};
@@ -14,8 +15,7 @@ fn source(
     failing: u64,
 ) -> Result<MemorySource, AllocError> {
     let text = Bytes::from_slice(alloc, text)?;
-    let failing = List::from_vec(vec![in alloc; failing]?);
-    Ok(MemorySource::new(text, most.max(1), failing))
+    Ok(MemorySource::new(text, most.max(1), numbers(alloc, &[failing])?))
 }
 
 #[test]

@@ -1,18 +1,14 @@
 //! What the objects in memory do at the calls that fail, and what the adapters answer.
 
-use base::{Bytes, List};
+use base::Bytes;
+use fixtures::{folder_of, numbers};
 use outside::{
-    Clock, DiskFolder, Failed, Folder, FolderFault, LiteralPatterns, MemoryClock, MemoryFolder,
-    MemorySink, MemorySource, NamedText, PatternFault, Patterns, Source, StandardInput,
-    StandardOutput, SystemClock, write_all,
+    Clock, DiskFolder, Failed, Folder, FolderFault, LiteralPatterns, MemoryClock, MemorySink,
+    MemorySource, PatternFault, Patterns, Source, StandardInput, StandardOutput, SystemClock,
+    write_all,
 };
-use std::alloc::{AllocError, Global};
 use std::test::Fail;
 use std::{env, fs, process};
-
-fn numbers(alloc: Global, items: &[u64]) -> Result<List<u64>, AllocError> {
-    Ok(List::from_vec(Vec::from_slice(alloc, items)?))
-}
 
 #[test]
 fn a_source_gives_short_reads_and_fails_at_its_second(rt: HostRuntime) -> Result<(), Fail> {
@@ -35,20 +31,11 @@ fn a_sink_keeps_what_came_before_its_fault(rt: HostRuntime) -> Result<(), Fail> 
     Ok(())
 }
 
-fn named(alloc: Global, name: &[u8], length: usize) -> Result<NamedText, AllocError> {
-    let name = Bytes::from_slice(alloc, name)?;
-    let text = Bytes::from_vec(vec![in alloc; 120; length]?);
-    Ok(NamedText { name, text })
-}
-
 #[test]
 fn a_folder_answers_by_name(rt: HostRuntime) -> Result<(), Fail> {
-    let mut texts = Vec::new(rt.alloc());
-    for (name, length) in [(b"a", 3), (b"b", 70_000), (b"a", 5)] {
-        texts.push(named(rt.alloc(), name, length)?)?;
-    }
-    let failing = numbers(rt.alloc(), &[4])?;
-    let mut folder = MemoryFolder::new(rt.alloc(), List::from_vec(texts), failing);
+    let long = vec![in rt.alloc(); 120; 70_000]?;
+    let files: [(&[u8], &[u8]); 3] = [(b"a", &long[..3]), (b"b", &long), (b"a", &long[..5])];
+    let mut folder = folder_of(rt.alloc(), &files, &[4])?;
     for (name, want) in [
         (b"a", Ok(3)),
         (b"b", Ok(65_537)),

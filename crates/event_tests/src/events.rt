@@ -3,8 +3,9 @@
 ghost use Rattle.std.specs.Prelude.{◌≤◌};
 
 use bank::{BankCall, FailAt, MemoryBank};
-use base::{Bytes, JOURNAL_SIZE_MAX, List};
+use base::{Bytes, JOURNAL_SIZE_MAX};
 use engine::Engine;
+use fixtures::{SMALL_SITE, failing_bank, fresh_bank};
 use site_events::{Event, Reply};
 use site_types::SiteTexts;
 use std::alloc::{AllocError, Global};
@@ -136,28 +137,11 @@ fn serves_files_over_reopenings(rt: HostRuntime) -> Result<(), Fail> {
         Row::new("put", "/b", &[6], 0, "stored 3 true"),
         Row::new("read", "/b", &[], 9, "bytes [6]"),
     ];
-    let mut bank = MemoryBank::new(rt.alloc(), List::new(rt.alloc()))?;
+    let mut bank = fresh_bank(rt.alloc())?;
     for row in rows.chunks(1) {
         bank = served(&rt, rt.alloc(), bank, JOURNAL, row).bank;
     }
     Ok(())
-}
-
-// An empty store of which these calls in an area fail, each by its kind and number.
-fn failing_bank(
-    alloc: Global,
-    area: u32,
-    calls: &[(BankCall, u64)],
-) -> Result<MemoryBank, AllocError> {
-    let mut fail = List::new(alloc);
-    for (call, number) in calls {
-        fail.push(FailAt {
-            area,
-            call: *call,
-            number: *number,
-        })?;
-    }
-    MemoryBank::new(alloc, fail)
 }
 
 #[test]
@@ -175,11 +159,20 @@ fn goes_on_behind_a_fault(rt: HostRuntime) -> Result<(), Fail> {
             Row::new("put", "/a", &[8], 0, "fault"),
             Row::new("read", "/a", &[], 9, expected),
         ];
-        let bank = failing_bank(rt.alloc(), area, &[(call, number)])?;
+        let bank = failing_bank(rt.alloc(), &[FailAt { area, call, number }])?;
         let left = served(&rt, rt.alloc(), bank, JOURNAL, &events);
         assert_eq!(rt; left.steps, steps);
     }
     Ok(())
+}
+
+// A call on the journal that is to fail, by its kind and number.
+fn on_journal((call, number): (BankCall, u64)) -> FailAt {
+    FailAt {
+        area: 0,
+        call,
+        number,
+    }
 }
 
 #[test]
@@ -197,24 +190,21 @@ fn a_reopening_that_fails_is_tried_again(rt: HostRuntime) -> Result<(), Fail> {
             Row::new("read", "/a", &[], 9, "fault"),
             Row::new("read", "/a", &[], 9, expected),
         ];
-        let bank = failing_bank(rt.alloc(), 0, &[append, reopening])?;
+        let bank = failing_bank(rt.alloc(), &[on_journal(append), on_journal(reopening)])?;
         served(&rt, rt.alloc(), bank, JOURNAL, &events);
     }
     Ok(())
 }
 
-// A cache of 256 blocks, and two volumes of a library with two drives.
-const SITE: &[u8] = b"cache = 1M\nlibrary = lib 2\nvolume = lib li V1 1M\nvolume = lib li V2 1M\n";
-
 #[test]
 fn the_cache_is_as_configured(rt: HostRuntime) -> Result<(), Fail> {
     let bytes = vec![in rt.alloc(); 0u8; 1_048_577]?;
     let events = [
-        Row::new("configure", "/", SITE, 0, "done 0"),
+        Row::new("configure", "/", SMALL_SITE, 0, "done 0"),
         Row::new("put", "/a", &bytes, 0, "refused NoSpace"),
         Row::new("put", "/a", &bytes[1..], 0, "stored 1 true"),
     ];
-    let bank = MemoryBank::new(rt.alloc(), List::new(rt.alloc()))?;
+    let bank = fresh_bank(rt.alloc())?;
     let left = served(&rt, rt.alloc(), bank, JOURNAL, &events);
     assert_eq!(rt; left.blocks, 256);
     Ok(())
@@ -222,8 +212,8 @@ fn the_cache_is_as_configured(rt: HostRuntime) -> Result<(), Fail> {
 
 #[test]
 fn a_configuration_needs_room_in_the_journal(rt: HostRuntime) -> Result<(), Fail> {
-    let events = [Row::new("configure", "/", SITE, 0, "journal full")];
-    let bank = MemoryBank::new(rt.alloc(), List::new(rt.alloc()))?;
+    let events = [Row::new("configure", "/", SMALL_SITE, 0, "journal full")];
+    let bank = fresh_bank(rt.alloc())?;
     let left = served(&rt, rt.alloc(), bank, 64, &events);
     assert_eq!(rt; left.blocks, 16_384);
     Ok(())

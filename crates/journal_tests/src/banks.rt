@@ -1,5 +1,5 @@
-use bank::{Bank, BankCall, FailAt, FileBank, FileBankRefusal, MemoryBank};
-use base::List;
+use bank::{Bank, BankCall, FailAt, FileBank, FileBankRefusal};
+use fixtures::{failing_bank, fresh_bank};
 use std::fs;
 use std::test::Fail;
 
@@ -36,19 +36,17 @@ fn a_folder_gives_back_what_was_written(rt: HostRuntime) -> Result<(), Fail> {
 
 #[test]
 fn listed_calls_fail_and_change_nothing(rt: HostRuntime) -> Result<(), Fail> {
-    let mut fail = List::new(rt.alloc());
-    for (call, number) in [
+    let fail = [
         (BankCall::Write, 2),
         (BankCall::Sync, 1),
         (BankCall::Read, 3),
-    ] {
-        fail.push(FailAt {
-            area: 1,
-            call,
-            number,
-        })?;
-    }
-    let mut bank = MemoryBank::new(rt.alloc(), fail)?;
+    ]
+    .map(|(call, number)| FailAt {
+        area: 1,
+        call,
+        number,
+    });
+    let mut bank = failing_bank(rt.alloc(), &fail)?;
     let mut got = [0u8; 2];
     for (byte, is_written, is_read, stands) in [
         (1, true, true, 1),
@@ -80,7 +78,7 @@ fn listed_calls_fail_and_change_nothing(rt: HostRuntime) -> Result<(), Fail> {
 
 #[test]
 fn a_crash_leaves_what_was_picked(rt: HostRuntime) -> Result<(), Fail> {
-    let mut bank = MemoryBank::new(rt.alloc(), List::new(rt.alloc()))?;
+    let mut bank = fresh_bank(rt.alloc())?;
     bank.write(1, 0, &[1, 2])?;
     bank.sync(1)?;
     bank.write(1, 1, &[3])?;

@@ -1,7 +1,8 @@
 //! Tests of the journal over a store in memory. The values come from the format.
 
 use bank::{Bank, BankCall, FailAt, MemoryBank};
-use base::{JOURNAL_SIZE_MAX, List, PAYLOAD_MAX};
+use base::{JOURNAL_SIZE_MAX, PAYLOAD_MAX};
+use fixtures::{failing_bank, fresh_bank};
 use journal::{AppendRefusal, Found, Journal, JournalRefusal, Reader};
 use std::alloc::{AllocError, Global};
 use std::process::Abort;
@@ -97,7 +98,7 @@ fn reads_what_the_format_says(rt: HostRuntime) -> Result<(), Fail> {
         (&[1, 1, 0, 0, 0, 7, 1, 54, 0, 0, 0], 64, "bad 6 [7]"),
     ];
     for (bytes, size, expected) in rows {
-        let mut bank = MemoryBank::new(rt.alloc(), List::new(rt.alloc()))?;
+        let mut bank = fresh_bank(rt.alloc())?;
         assert!(rt; bytes.len() < 100);
         bank.write(0, 0, bytes)?;
         let answer = reopened(&rt, rt.alloc(), &mut bank, size)?;
@@ -117,7 +118,7 @@ fn appends_until_it_is_full(rt: HostRuntime) -> Result<(), Fail> {
         (20000, [4096, 4097, 5], 3, 8, "ok 4096 4097 [7, 7, 7, 7, 7]"),
     ];
     for (size, lengths, last, writes, expected) in rows {
-        let mut bank = MemoryBank::new(rt.alloc(), List::new(rt.alloc()))?;
+        let mut bank = fresh_bank(rt.alloc())?;
         let Some(mut journal) = journal_of(&rt, rt.alloc(), &mut bank, size) else {
             panic!(rt; "not reopened");
         };
@@ -148,13 +149,12 @@ fn fails_with_the_store(rt: HostRuntime) -> Result<(), Fail> {
         (BankCall::Sync, 3, false, "ok [7, 7]"),
     ];
     for (call, number, at_once, expected) in rows {
-        let mut fail = List::new(rt.alloc());
-        fail.push(FailAt {
+        let fail = [FailAt {
             area: 0,
             call,
             number,
-        })?;
-        let mut bank = MemoryBank::new(rt.alloc(), fail)?;
+        }];
+        let mut bank = failing_bank(rt.alloc(), &fail)?;
         match journal_of(&rt, rt.alloc(), &mut bank, 64) {
             Some(mut journal) => {
                 let answer = appended(&rt, rt.alloc(), &mut journal, &mut bank, 2)?;
@@ -171,7 +171,7 @@ fn fails_with_the_store(rt: HostRuntime) -> Result<(), Fail> {
 
 #[test]
 fn reads_in_large_pieces(rt: HostRuntime) -> Result<(), Fail> {
-    let mut bank = MemoryBank::new(rt.alloc(), List::new(rt.alloc()))?;
+    let mut bank = fresh_bank(rt.alloc())?;
     let Some(mut journal) = journal_of(&rt, rt.alloc(), &mut bank, 4_000_000) else {
         panic!(rt; "not reopened");
     };

@@ -12,6 +12,4 @@ fn main(rt: HostRuntime) -> ExitCode {
 }
 
 #[cfg(test)]
-mod configure_tests;
-#[cfg(test)]
 mod tests;

@@ -1,21 +1,16 @@
 //! What a run writes that is asked to configure.
 
-use crate::runs::expect_with;
-use crate::texts::texts_of;
-use site_events::CommandFile;
-use site_types::SiteTexts;
+use crate::scripts::expect_answers;
+use fixtures::{File, SMALL_SITE};
 use std::test::Fail;
 
-/// A cache of 1 MiB, and a library with two volumes.
-const SITE: (CommandFile, &[u8]) = (
-    CommandFile::Site,
-    b"cache = 1M\nlibrary = lib 2\nvolume = lib li V1 1M\nvolume = lib li V2 1M\n",
-);
+/// The site.conf of a small site.
+const SITE: File<'static> = (b"site.conf", SMALL_SITE);
 
 #[test]
 fn a_configured_site_has_the_cache_of_its_site_conf(rt: HostRuntime) -> Result<(), Fail> {
     let alloc = rt.alloc();
-    let texts = texts_of(alloc, &[SITE])?;
+    let files = [SITE];
     let table: [(&[u8], &[u8]); 4] = [
         (
             b"configure\nmake /a u g 2M 0\nmake /a u g 1M 0\n",
@@ -35,7 +30,7 @@ fn a_configured_site_has_the_cache_of_its_site_conf(rt: HostRuntime) -> Result<(
         ),
     ];
     for (text, answers) in table {
-        expect_with(&rt, alloc, &texts, text, answers)?;
+        expect_answers(&rt, alloc, &files, text, answers)?;
     }
     Ok(())
 }
@@ -43,10 +38,10 @@ fn a_configured_site_has_the_cache_of_its_site_conf(rt: HostRuntime) -> Result<(
 #[test]
 fn no_file_gives_the_default_site(rt: HostRuntime) -> Result<(), Fail> {
     let alloc = rt.alloc();
-    expect_with(
+    expect_answers(
         &rt,
         alloc,
-        &SiteTexts::empty(alloc),
+        &[],
         b"configure\nmake /a u g 2M 0\n",
         b"ok 0\nok 1\n",
     )
@@ -55,10 +50,10 @@ fn no_file_gives_the_default_site(rt: HostRuntime) -> Result<(), Fail> {
 #[test]
 fn a_site_with_a_file_is_not_configured(rt: HostRuntime) -> Result<(), Fail> {
     let alloc = rt.alloc();
-    expect_with(
+    expect_answers(
         &rt,
         alloc,
-        &texts_of(alloc, &[SITE])?,
+        &[SITE],
         b"put /a u g hi\nconfigure\nmake /b u g 2M 0\nrm /a\nconfigure\nrm /b\nconfigure\n",
         b"ok 1\nrefused: running\nok 2\nok 1\nrefused: running\nok 2\nok 0\n",
     )
@@ -68,10 +63,10 @@ fn a_site_with_a_file_is_not_configured(rt: HostRuntime) -> Result<(), Fail> {
 fn the_first_wrong_line_is_told_and_the_site_stays(rt: HostRuntime) -> Result<(), Fail> {
     let alloc = rt.alloc();
     let archiver: &[u8] = b"# what is archived\nset0 .\nset1 work -color red\n";
-    expect_with(
+    expect_answers(
         &rt,
         alloc,
-        &texts_of(alloc, &[SITE, (CommandFile::Archiver, archiver)])?,
+        &[SITE, (b"archiver.cmd", archiver)],
         b"configure\nmake /a u g 2M 0\n",
         b"refused: archiver.cmd line 3: unknown directive\nok 1\n",
     )
@@ -80,36 +75,37 @@ fn the_first_wrong_line_is_told_and_the_site_stays(rt: HostRuntime) -> Result<()
 #[test]
 fn each_file_may_be_wrong(rt: HostRuntime) -> Result<(), Fail> {
     let alloc = rt.alloc();
-    let table: [(CommandFile, &[u8], &[u8]); 5] = [
+    let table: [(&[u8], &[u8], &[u8]); 5] = [
         (
-            CommandFile::Site,
+            b"site.conf",
             b"cache = 1M\ncache = 2M\n",
             b"refused: site.conf line 2: duplicate\n",
         ),
         (
-            CommandFile::Archiver,
+            b"archiver.cmd",
             b"1 240\n",
             b"refused: archiver.cmd line 1: copy before set\n",
         ),
         (
-            CommandFile::Stager,
+            b"stager.cmd",
             b"drives = lib 1\ndrives = far 1\n",
             b"refused: stager.cmd line 2: bad value\n",
         ),
         (
-            CommandFile::Releaser,
+            b"releaser.cmd",
             b"no_release\n\nfrob\n",
             b"refused: releaser.cmd line 3: unknown directive\n",
         ),
         (
-            CommandFile::Recycler,
+            b"recycler.cmd",
             b"lib -hwm 101\n",
             b"refused: recycler.cmd line 1: out of range\n",
         ),
     ];
     for (file, text, answer) in table {
-        let texts = texts_of(alloc, &[SITE, (file, text)])?;
-        expect_with(&rt, alloc, &texts, b"configure\n", answer)?;
+        // the first of a name counts
+        let files = [(file, text), SITE];
+        expect_answers(&rt, alloc, &files, b"configure\n", answer)?;
     }
     Ok(())
 }
@@ -117,14 +113,11 @@ fn each_file_may_be_wrong(rt: HostRuntime) -> Result<(), Fail> {
 #[test]
 fn the_first_wrong_file_is_told(rt: HostRuntime) -> Result<(), Fail> {
     let alloc = rt.alloc();
-    let wrong: [(CommandFile, &[u8]); 2] = [
-        (CommandFile::Recycler, b"frob\n"),
-        (CommandFile::Stager, b"\nfrob\n"),
-    ];
-    expect_with(
+    let wrong: [File<'_>; 2] = [(b"recycler.cmd", b"frob\n"), (b"stager.cmd", b"\nfrob\n")];
+    expect_answers(
         &rt,
         alloc,
-        &texts_of(alloc, &wrong)?,
+        &wrong,
         b"configure\n",
         b"refused: stager.cmd line 2: unknown directive\n",
     )
@@ -139,9 +132,9 @@ fn a_command_file_has_a_limit(rt: HostRuntime) -> Result<(), Fail> {
         (&comment, b"refused: too large\n"),
     ];
     for (text, answer) in lengths {
-        for file in [CommandFile::Site, CommandFile::Recycler] {
-            let texts = texts_of(alloc, &[(file, text)])?;
-            expect_with(&rt, alloc, &texts, b"configure\n", answer)?;
+        for file in [b"site.conf".as_slice(), b"recycler.cmd"] {
+            let files = [(file, text)];
+            expect_answers(&rt, alloc, &files, b"configure\n", answer)?;
         }
     }
     Ok(())

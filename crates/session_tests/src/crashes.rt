@@ -1,59 +1,33 @@
 //! What is left of a site after a crash at each instant, and after each call of the store failed once.
 
 use crate::left::{CHANGES, Change, READS, read_after};
-use crate::texts::{folder_of, texts_of};
+use crate::scripts::{Case, Left, plain, run};
 use bank::{Bank, BankCall, FailAt, MemoryBank};
-use base::{Bytes, List};
-use outside::{LiteralPatterns, MemoryClock, MemorySink, MemorySource};
-use session::{Mark, run_lines};
-use site_events::CommandFile;
-use site_types::SiteTexts;
+use base::Bytes;
+use fixtures::{File, failing_bank, fresh_bank};
+use session::Mark;
 use std::alloc::Global;
 use std::process::Abort;
 use std::test::Fail;
 
-/// A cache of four blocks.
-const SITE: &[u8] = b"cache = 16K\n";
+/// The command files: a cache of four blocks.
+const FILES: [File<'static>; 1] = [(b"site.conf", b"cache = 16K\n")];
 
 /// No call has so high a number.
 const CALLS: u64 = 22;
 
-/// What a run left.
-#[derive(Drop)]
-struct Left {
-    written: Bytes,
+// Runs a text over a store and a folder of these files.
+fn run_text(
+    alloc: Global,
     bank: MemoryBank,
-    marks: List<Mark>,
-}
-
-// The command files.
-fn site_texts(alloc: Global) -> Result<SiteTexts, Fail> {
-    Ok(texts_of(alloc, &[(CommandFile::Site, SITE)])?)
-}
-
-fn fresh(alloc: Global) -> Result<MemoryBank, Fail> {
-    Ok(MemoryBank::new(alloc, List::new(alloc))?)
-}
-
-// Runs a text over a store and a folder of these texts.
-fn run(alloc: Global, bank: MemoryBank, texts: &SiteTexts, text: &[u8]) -> Result<Left, Fail> {
-    let mut input = MemorySource::new(Bytes::from_slice(alloc, text)?, 50, List::new(alloc));
-    let mut output = MemorySink::new(alloc, 50, List::new(alloc));
-    let outcome = run_lines(
-        alloc,
-        bank,
-        &mut MemoryClock::new(List::new(alloc)),
-        &mut folder_of(alloc, texts)?,
-        LiteralPatterns::new(alloc, List::new(alloc), List::new(alloc)),
-        &mut input,
-        &mut output,
-        100_000,
-    );
-    Ok(Left {
-        written: Bytes::from_slice(alloc, output.written())?,
-        bank: outcome.bank,
-        marks: outcome.marks,
-    })
+    files: &[File<'_>],
+    text: &[u8],
+) -> Result<Left, Fail> {
+    let case = Case {
+        pieces: [50, 50],
+        ..plain(text, b"", &[])
+    };
+    run(alloc, bank, files, case)
 }
 
 // All lines that change a site.
@@ -79,7 +53,7 @@ fn reads_of_prefixes(alloc: Global) -> Result<Vec<Vec<u8>>, Fail> {
 
 // Reads what a store holds. No command file is there any more.
 fn read_again(alloc: Global, bank: MemoryBank) -> Result<Bytes, Fail> {
-    Ok(run(alloc, bank, &SiteTexts::empty(alloc), READS)?.written)
+    Ok(run_text(alloc, bank, &[], READS)?.written)
 }
 
 // Reads what a crash left.
@@ -111,10 +85,10 @@ fn crash_at(
 }
 
 #[test]
-fn a_crash_at_each_moment_leaves_what_was_answered(rt: HostRuntime) -> Result<(), Fail> {
+fn a_crash_at_each_instant_leaves_what_was_answered(rt: HostRuntime) -> Result<(), Fail> {
     let alloc = rt.alloc();
     let all = all_changes(alloc)?;
-    let left = run(alloc, fresh(alloc)?, &site_texts(alloc)?, &all)?;
+    let left = run_text(alloc, fresh_bank(alloc)?, &FILES, &all)?;
     assert_eq!(rt; left.marks.len(), CHANGES.len());
     let reads = reads_of_prefixes(alloc)?;
     for instant in 0..=left.bank.instant() {
@@ -136,9 +110,8 @@ fn acknowledged(alloc: Global, answers: &[u8]) -> Result<Vec<Change>, Fail> {
 
 // Runs all lines over a store of which this call fails.
 fn failing_run(alloc: Global, area: u32, call: BankCall, number: u64) -> Result<Left, Fail> {
-    let fail = [FailAt { area, call, number }].to_vec(alloc)?;
-    let bank = MemoryBank::new(alloc, List::from_vec(fail))?;
-    run(alloc, bank, &site_texts(alloc)?, &all_changes(alloc)?)
+    let bank = failing_bank(alloc, &[FailAt { area, call, number }])?;
+    run_text(alloc, bank, &FILES, &all_changes(alloc)?)
 }
 
 // What was acknowledged is there; the line at whose end the journal failed may be, and then all lines went well.
@@ -212,7 +185,7 @@ fn a_reopened_site_has_the_cache_that_it_was_configured_with(rt: HostRuntime) ->
         ),
     ];
     for (lines, made) in table {
-        let left = run(alloc, fresh(alloc)?, &site_texts(alloc)?, lines)?;
+        let left = run_text(alloc, fresh_bank(alloc)?, &FILES, lines)?;
         let read = read_again(alloc, left.bank)?;
         let expected = read_after(alloc, made)?;
         assert!(rt; expected.as_slice() == read.as_slice());
@@ -236,9 +209,9 @@ fn a_reopening_that_fails_is_tried_again(rt: HostRuntime) -> Result<(), Fail> {
             number: 4,
         },
     ];
-    let bank = MemoryBank::new(alloc, List::from_vec(fail.to_vec(alloc)?))?;
+    let bank = failing_bank(alloc, &fail)?;
     let lines = b"put /a u g hi\nput /b u g yo\nput /b u g ho\ncat /a\n";
-    let left = run(alloc, bank, &SiteTexts::empty(alloc), lines)?;
+    let left = run_text(alloc, bank, &[], lines)?;
     let answers: &[u8] = b"fault: bank\nfault: bank\nok 2\nbytes 2\nhi\n";
     assert!(rt; left.written.as_slice() == answers);
     Ok(())

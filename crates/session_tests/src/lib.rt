@@ -8,6 +8,10 @@ mod crashes;
 #[cfg(test)]
 mod left;
 #[cfg(test)]
+mod marks;
+#[cfg(test)]
+mod marks_of_configurations;
+#[cfg(test)]
 mod runs;
 #[cfg(test)]
-mod texts;
+mod scripts;

@@ -1,45 +1,7 @@
 //! What a run over memory writes.
 
-use crate::texts::folder_of;
-use bank::MemoryBank;
-use base::{Bytes, List};
-use outside::{LiteralPatterns, MemoryClock, MemorySink, MemorySource};
-use session::run_lines;
-use site_types::SiteTexts;
-use std::alloc::Global;
-use std::process::Abort;
+use crate::scripts::expect_answers;
 use std::test::Fail;
-
-/// Runs a text where the command files have these texts. The answers are these.
-pub fn expect_with(
-    rt: &impl Abort,
-    alloc: Global,
-    texts: &SiteTexts,
-    text: &[u8],
-    answers: &[u8],
-) -> Result<(), Fail> {
-    let bank = MemoryBank::new(alloc, List::new(alloc))?;
-    let mut input = MemorySource::new(Bytes::from_slice(alloc, text)?, 7, List::new(alloc));
-    let mut output = MemorySink::new(alloc, 5, List::new(alloc));
-    let outcome = run_lines(
-        alloc,
-        bank,
-        &mut MemoryClock::new(List::new(alloc)),
-        &mut folder_of(alloc, texts)?,
-        LiteralPatterns::new(alloc, List::new(alloc), List::new(alloc)),
-        &mut input,
-        &mut output,
-        100_000,
-    );
-    assert_eq!(rt; outcome.status, 0);
-    assert!(rt; output.written() == answers);
-    Ok(())
-}
-
-// The same without command files.
-fn expect(rt: &impl Abort, alloc: Global, text: &[u8], answers: &[u8]) -> Result<(), Fail> {
-    expect_with(rt, alloc, &SiteTexts::empty(alloc), text, answers)
-}
 
 #[test]
 fn a_run_writes_these_answers(rt: HostRuntime) -> Result<(), Fail> {
@@ -80,7 +42,7 @@ fn a_run_writes_these_answers(rt: HostRuntime) -> Result<(), Fail> {
         (b"configure\nconfigure /a\n", b"ok 0\nrefused: bad word 2\n"),
     ];
     for (text, answers) in table {
-        expect(&rt, alloc, text, answers)?;
+        expect_answers(&rt, alloc, &[], text, answers)?;
     }
     Ok(())
 }
@@ -90,8 +52,8 @@ fn and_of_long_lines(rt: HostRuntime) -> Result<(), Fail> {
     let alloc = rt.alloc();
     let mut text = b"put /a u g ".to_vec(alloc)?;
     text.extend_from_slice(&vec![in alloc; b'x'; 4085]?)?;
-    expect(&rt, alloc, &text, b"ok 1\n")?;
+    expect_answers(&rt, alloc, &[], &text, b"ok 1\n")?;
     text.push(b'x')?;
     text.extend_from_slice(b"\nput /b u g hi\n")?;
-    expect(&rt, alloc, &text, b"refused: line too long\nok 1\n")
+    expect_answers(&rt, alloc, &[], &text, b"refused: line too long\nok 1\n")
 }
