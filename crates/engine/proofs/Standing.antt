@@ -19,8 +19,8 @@ use Rattle.site_history.proofs.JournalLaws.{bare, same_steps, same_fields, same_
 use Rattle.site_history.proofs.Reopenings.{decided, images_after_reading, meanwhile_reading, found_settled}
 use Rattle.site_state.specs.declared.state.SiteState.{SiteState}
 use Rattle.engine.specs.declared.engine.Engine.{Engine}
-use Rattle.engine.specs.declared.engine.ShutCause.{ShutCause}
-use Rattle.engine.specs.declared.engine.ShutCause.TheVariants.{BankFault, BadJournal, NoMemory}
+use Rattle.engine.specs.declared.events.ShutCause.{ShutCause}
+use Rattle.engine.specs.declared.events.ShutCause.TheVariants.{BankFault, BadJournal, NoMemory}
 use Rattle.engine.specs.Journals.{TellsJournal}
 use Rattle.engine.specs.Replayed.{IsReplayed}
 use Rattle.site_state.specs.Keeps.{Keeps}

@@ -3,8 +3,8 @@ use Rattle.std.specs.Prelude.{◌≡◌, ℕ, ◌≤◌, Result, IfErr, OnOk, On
 use Rattle.base.specs.Causes.{Rose}
 use Rattle.site_events.specs.declared.reply.Reply.{Reply}
 use Rattle.site_events.specs.declared.reply.Reply.TheVariants as replies
-use Rattle.engine.specs.declared.engine.ShutCause.{ShutCause}
-use Rattle.engine.specs.declared.engine.ShutCause.TheVariants as causes
+use Rattle.engine.specs.declared.events.ShutCause.{ShutCause}
+use Rattle.engine.specs.declared.events.ShutCause.TheVariants as causes
 
 -- Calls on the cache leave the count of the journal's area, and that of all faults never falls. Where one of them failed it rose, and
 -- the last fault was in area 1; where none did the last fault is the one from before.

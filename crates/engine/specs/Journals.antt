@@ -4,8 +4,8 @@ use Rattle.site_events.specs.declared.reply.Reply.{Reply}
 use Rattle.site_events.specs.declared.reply.Reply.TheVariants.{BadJournal as BadJournalReply}
 use Rattle.site_history.specs.Terms.{Terms}
 use Rattle.site_history.specs.Journals.{IsBadJournal}
-use Rattle.engine.specs.declared.engine.ShutCause.{ShutCause}
-use Rattle.engine.specs.declared.engine.ShutCause.TheVariants.{BankFault, BadJournal, NoMemory}
+use Rattle.engine.specs.declared.events.ShutCause.{ShutCause}
+use Rattle.engine.specs.declared.events.ShutCause.TheVariants.{BankFault, BadJournal, NoMemory}
 
 -- a bad journal is told where one stands
 abbrev pub TellsJournal : Terms → Content → ShutCause → Type 0

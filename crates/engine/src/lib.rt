@@ -4,10 +4,12 @@
 mod commit;
 mod data;
 mod engine;
+mod events;
 mod payload;
 mod perform;
 mod reopen;
 mod work;
 
 pub use configuration::{Configuration, read_texts};
-pub use engine::{Engine, Shut, ShutCause};
+pub use engine::Engine;
+pub use events::{Shut, ShutCause};

@@ -11,7 +11,7 @@ ghost use Rattle.engine.specs.Journals.{TellsJournal};
 ghost use Rattle.engine.specs.Replayed.{IsReplayed, IsReadUpTo, IsReadToEnd};
 ghost use Rattle.engine.specs.Counts.{IsShutFor};
 
-use crate::engine::ShutCause;
+use crate::events::ShutCause;
 use bank::Bank;
 use base::JOURNAL_SIZE_MAX;
 use journal::{Found, Journal, JournalRefusal, Reader};

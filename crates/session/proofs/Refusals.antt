@@ -7,8 +7,8 @@ use Rattle.site_history.specs.Terms.{Terms}
 use Rattle.site_history.specs.Steps.{HistoryStep}
 use Rattle.site_history.specs.Images.{IsSettled}
 use Rattle.site_history.proofs.Reopenings.{settled_after_reading}
-use Rattle.engine.specs.declared.engine.ShutCause.{ShutCause}
-use Rattle.engine.specs.declared.engine.ShutCause.TheVariants.{BankFault, BadJournal, NoMemory}
+use Rattle.engine.specs.declared.events.ShutCause.{ShutCause}
+use Rattle.engine.specs.declared.events.ShutCause.TheVariants.{BankFault, BadJournal, NoMemory}
 use Rattle.engine.specs.Journals.{TellsJournal}
 use Rattle.session.specs.Session.{Outside}
 use Rattle.session.specs.Refusing.{WritesRefusal, status_of_shut}

@@ -4,8 +4,8 @@ use Rattle.std.specs.Io.KnownBytes.{Appends}
 use Rattle.outside.specs.Streams.{IsWritten}
 use Rattle.site_events.specs.declared.reply.Reply.{Reply}
 use Rattle.desk.specs.Texts.{text_of}
-use Rattle.engine.specs.declared.engine.ShutCause.{ShutCause}
-use Rattle.engine.specs.declared.engine.ShutCause.TheVariants.{BankFault, BadJournal, NoMemory}
+use Rattle.engine.specs.declared.events.ShutCause.{ShutCause}
+use Rattle.engine.specs.declared.events.ShutCause.TheVariants.{BankFault, BadJournal, NoMemory}
 
 abbrev pub status_of_shut : ShutCause → ℕ
 status_of_shut BankFault = 3

@@ -1,7 +1,7 @@
 use Rattle.std.proofs.Common.{ℕ, refl, ◌∙◌, subst, rules}
 use Rattle.journal.specs.Records.{HoldsRecords}
 use Rattle.site_history.specs.Histories.{written_forms}
-use Rattle.engine.specs.declared.engine.ShutCause.{ShutCause}
+use Rattle.engine.specs.declared.events.ShutCause.{ShutCause}
 use Rattle.engine.specs.Journals.{TellsJournal}
 use Rattle.engine.proofs.Standing.{stays, not_bad, recovered}
 use Rattle.engine.proofs.engine.Engine.recover.Goals as goal
