@@ -189,8 +189,3 @@ AreMaximal-within total runs h there = AreMaximalFrom-within total 0 runs h ther
 
 pub lowest_runs-within : (total : ℕ) (held : List Run) (wanted : ℕ) → All (IsRunWithin total) (lowest_runs total held wanted)
 lowest_runs-within total held wanted = AreMaximal-within total (lowest_runs total held wanted) (lowest_runs-maximal total held wanted) (lowest_runs-there total held wanted)
-
--- no run is longer than all blocks together
-pub first_run_small : (runs : List Run) (blocks : List ℕ) (d : Run) → runs ≡ as_runs blocks → 0 < length runs → (get_or runs 0 d).count ≤ length blocks
-first_run_small runs blocks d is some =
-    omega (arith, get_or-le-sum_by (λ (run : Run). run.count) runs 0 d some, ap blocks_in is, blocks_in-as_runs blocks)
