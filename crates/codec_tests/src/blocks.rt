@@ -41,7 +41,13 @@ fn lowest_free_blocks(rt: HostRuntime) -> Result<(), Fail> {
 fn lowest_free_blocks_of_groups(rt: HostRuntime) -> Result<(), Fail> {
     let held = [run(2, 3), run(4095, 4098), run(8196, 1), run(12286, 2)];
     let space = space_with(rt.alloc(), 12289, &held)?;
-    let free = [run(0, 2), run(5, 4090), run(8193, 3), run(8197, 4089), run(12288, 1)];
+    let free = [
+        run(0, 2),
+        run(5, 4090),
+        run(8193, 3),
+        run(8197, 4089),
+        run(12288, 1),
+    ];
     let table = [
         (0, &free[..0]),
         (1, &[run(0, 1)][..]),
