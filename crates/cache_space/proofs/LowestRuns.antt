@@ -1,11 +1,11 @@
 -- What the lowest free blocks are, as runs.
-use Rattle.std.proofs.Common.{◌≡◌, ℕ, ◌+◌, ◌-◌, ◌<◌, ◌≤◌, Bool, true, false, cond, eqb, not, ◌||◌, List, [], ◌∷◌, ◌++◌, length, take, filter, get_or, refl, sym, ◌∙◌, ap, subst, ⊎_elim, ◌⊎◌, inl, inr, arith, suc, zero}
+use Rattle.std.proofs.Common.{◌≡◌, ℕ, ◌+◌, ◌-◌, ◌<◌, ◌≤◌, Bool, true, false, cond, eqb, not, ◌||◌, List, [], ◌∷◌, ◌++◌, length, take, filter, refl, sym, ◌∙◌, ap, subst, ⊎_elim, ◌⊎◌, inl, inr, arith, suc, zero}
 use Rattle.std.specs.List.{range_with_len, list_any, All}
 use Rattle.std.proofs.lemmas.Bool.{both_ways, or_cases, or_left, or_right, not-true, eqb-true, eqb-false, false_from_ne_true}
 use Rattle.std.proofs.lemmas.Bool.Decides.{nat_tests}
 use Rattle.std.proofs.lemmas.List.{length-take-le}
 use Rattle.std.proofs.lemmas.List.Elements.{All-nil, All-cons}
-use Rattle.std.proofs.lemmas.List.Sums.{sum_by-cons, get_or-le-sum_by}
+use Rattle.std.proofs.lemmas.List.Sums.{sum_by-cons}
 use Rattle.site_types.specs.declared.file.Run.{Run}
 use Rattle.cache_space.specs.Blocks.{is_in_run, is_in_runs, put_before, as_runs, free_blocks, lowest_runs}
 use Rattle.cache_space.specs.Space.{AreThere, AreApart, AreFree, AreDisjoint, AreMaximalFrom, AreMaximal, blocks_in}
@@ -189,8 +189,3 @@ AreMaximal-within total runs h there = AreMaximalFrom-within total 0 runs h ther
 
 pub lowest_runs-within : (total : ℕ) (held : List Run) (wanted : ℕ) → All (IsRunWithin total) (lowest_runs total held wanted)
 lowest_runs-within total held wanted = AreMaximal-within total (lowest_runs total held wanted) (lowest_runs-maximal total held wanted) (lowest_runs-there total held wanted)
-
--- no run is longer than all blocks together
-pub first_run_small : (runs : List Run) (blocks : List ℕ) (d : Run) → runs ≡ as_runs blocks → 0 < length runs → (get_or runs 0 d).count ≤ length blocks
-first_run_small runs blocks d is some =
-    omega (arith, get_or-le-sum_by (λ (run : Run). run.count) runs 0 d some, ap blocks_in is, blocks_in-as_runs blocks)

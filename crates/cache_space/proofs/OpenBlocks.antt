@@ -130,11 +130,3 @@ open_blocks-few taken total held but is =
     let fewer = length-filter_fewer (λ block. not (is_in_runs (held ++ but) block)) (λ block. not (is_in_runs held block)) (range_with_len 0 total)
     (λ block. not_either (is_in_runs held block) (is_in_runs but block) (is_in_runs (held ++ but) block) (is_in_runs-append held but block)) in
     omega (arith, fewer, ap (count_by not) is ∙ count_by-taken_by total held)
-
--- one block more of all
-pub free_blocks_more : (total : ℕ) (held : List Run) → free_blocks (total + 1) held ≡ free_blocks total held ++ cond (not (is_in_runs held total)) (total ∷ []) []
-free_blocks_more total held =
-    let last : 0 + total ≡ total = omega arith in
-    ap (filter (λ block. not (is_in_runs held block))) (range_with_len-add 0 total 1)
-    ∙ filter-append (λ block. not (is_in_runs held block)) (range_with_len 0 total) (range_with_len (0 + total) 1)
-    ∙ ap (λ b. free_blocks total held ++ cond (not (is_in_runs held b)) (b ∷ []) []) last

@@ -3,12 +3,10 @@
 
 mod flags;
 mod groups;
-mod plain;
 mod refusal;
 mod runs;
 mod space;
 
-pub use plain::plain_lowest;
 pub use refusal::SpaceRefusal;
 pub use runs::{are_maximal, blocks_needed, end_of, have_blocks};
 pub use space::CacheSpace;

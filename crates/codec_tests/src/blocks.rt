@@ -1,4 +1,4 @@
-use cache_space::{CacheSpace, are_maximal, blocks_needed, have_blocks, plain_lowest};
+use cache_space::{CacheSpace, are_maximal, blocks_needed, have_blocks};
 use site_types::Run;
 use std::alloc::{AllocError, Global};
 use std::test::Fail;
@@ -36,15 +36,30 @@ fn lowest_free_blocks(rt: HostRuntime) -> Result<(), Fail> {
     Ok(())
 }
 
-/// The plain definition gives the same.
+/// Free blocks over groups that are held in part or whole, by hand.
 #[test]
-fn as_the_plain_definition(rt: HostRuntime) -> Result<(), Fail> {
+fn lowest_free_blocks_of_groups(rt: HostRuntime) -> Result<(), Fail> {
     let held = [run(2, 3), run(4095, 4098), run(8196, 1), run(12286, 2)];
     let space = space_with(rt.alloc(), 12289, &held)?;
-    for wanted in [0, 1, 2, 3, 4092, 4093, 8185] {
-        let plain = plain_lowest(rt.alloc(), 12289, &held, wanted)?;
+    let free = [
+        run(0, 2),
+        run(5, 4090),
+        run(8193, 3),
+        run(8197, 4089),
+        run(12288, 1),
+    ];
+    let table = [
+        (0, &free[..0]),
+        (1, &[run(0, 1)][..]),
+        (2, &free[..1]),
+        (3, &[run(0, 2), run(5, 1)][..]),
+        (4092, &free[..2]),
+        (4093, &[run(0, 2), run(5, 4090), run(8193, 1)][..]),
+        (8185, &free[..]),
+    ];
+    for (wanted, expected) in table {
         let runs = space.lowest(wanted, &[]).ok().ok_or("refused")?;
-        assert_eq!(rt; runs.as_slice(), plain.as_slice(), "{wanted} blocks");
+        assert_eq!(rt; runs.as_slice(), expected, "{wanted} blocks");
     }
     assert_eq!(rt; space.free(), 8185);
     Ok(())
