@@ -20,7 +20,7 @@ began m = content_of zeros (reverse m.before)
 abbrev pub past_of : MemoryBank → List Call
 past_of m = reverse m.calls
 
--- those up to a instant
+-- those up to an instant
 abbrev pub past_at : MemoryBank → ℕ → List Call
 past_at m instant = reverse (take instant m.calls)
 

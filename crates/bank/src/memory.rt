@@ -92,7 +92,7 @@ impl MemoryBank {
         self.calls.as_slice()
     }
 
-    /// The store after a crash at a instant, or at the last call's if it comes earlier: one of the images that may be
+    /// The store after a crash at an instant, or at the last call's if it comes earlier: one of the images that may be
     /// left then. Pick 0 is without each write that was not synced, 1 with all of them, any other with the byte 0xA5
     /// all over the range of each. Its calls start anew, and none of them is to fail.
     pub fn crashed(&self, instant: u64, pick: u8) -> Result<Self, AllocError>

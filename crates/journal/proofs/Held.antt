@@ -8,7 +8,7 @@ use Rattle.bank.specs.View.{View, IsImage, IsSound, IsTornImage, LeavesOnly, Wro
 use Rattle.journal.specs.Records.{IsPayload, AreRecords, end_of, IsEnd, HoldsRecords, AllHold}
 use Rattle.journal.proofs.RecordLaws.{end-within, before-same, one_list}
 
--- what each image since a instant has, an image now has
+-- what each image since an instant has, an image now has
 pub now_has : (old new : View) (P : Image → Type 0) → IsSound new → LeavesOnly old new P → (c : Image) → IsImage new c → P c
 now_has old new P sound h c image = h.each c (sound.counts_now old.instant c h.later image)
 

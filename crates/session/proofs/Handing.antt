@@ -188,8 +188,8 @@ module _ (terms : Terms) {B P : Type 0} (Asks : Items Request) (begins : World �
       (session phase stands)))))
 
 -- The causes of a status do not speak of the store's instant.
-status_at : (terms : Terms) (tells : Bool) (journal : Content) (budget : ℕ) (old new : Outside) (moment status : ℕ) → HasStatus terms tells journal budget (record old { instant = instant }) new status → HasStatus terms tells journal budget old new status
-status_at terms tells journal budget old new moment status h = record {
+status_at : (terms : Terms) (tells : Bool) (journal : Content) (budget : ℕ) (old new : Outside) (instant status : ℕ) → HasStatus terms tells journal budget (record old { instant = instant }) new status → HasStatus terms tells journal budget old new status
+status_at terms tells journal budget old new instant status h = record {
   bad_journal = h.bad_journal;
   fault = h.fault;
   source = h.source;

@@ -61,12 +61,12 @@ fn read_back(alloc: Global, bank: &MemoryBank, instant: u64, pick: u8) -> Result
     read_again(alloc, bank.crashed(instant, pick)?)
 }
 
-// How many lines were answered by a instant.
+// How many lines were answered by an instant.
 fn answered(marks: &[Mark], instant: u64) -> usize {
     marks.iter().filter(|mark| mark.instant <= instant).count()
 }
 
-// A crash at a instant leaves what was answered by then, and at most one line more.
+// A crash at an instant leaves what was answered by then, and at most one line more.
 fn crash_at(
     rt: &impl Abort,
     alloc: Global,

@@ -237,7 +237,7 @@ fn steps_after(rt: &impl Abort, alloc: Global, bank: MemoryBank) -> Result<u64, 
     Ok(left.marks.as_slice().last().map_or(0, |mark| mark.steps))
 }
 
-// How many steps were acknowledged at a instant.
+// How many steps were acknowledged at an instant.
 fn acknowledged(marks: &[Mark], instant: u64) -> u64 {
     let mut steps = 0;
     for mark in marks {

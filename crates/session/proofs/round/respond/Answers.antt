@@ -20,7 +20,7 @@ returns-in-One-clause-round g c = λ terms told tells phase stands demand read.
 
 pub returns-in-At-clause-round : goal.returns-in-At-clause-round
 returns-in-At-clause-round g c = λ terms told tells phase stands demand read.
-    at_response terms told g.B.Bank.view c.args.engine.now _ _ (g.F.Folder.texts c.args.folder.now) (g.F.Folder.faults c.args.folder.now) _ phase stands (omega arith) (λ t. g.met.B.Bank.sound _ (tells t)) _ _ c.in-At.instant c.move_on.result demand _ _
+    at_response terms told g.B.Bank.view c.args.engine.now _ _ (g.F.Folder.texts c.args.folder.now) (g.F.Folder.faults c.args.folder.now) _ phase stands (omega arith) (λ t. g.met.B.Bank.sound _ (tells t)) _ _ c.in-At.moment c.move_on.result demand _ _
     (read_alike _ _ demand (ok_as _ _ _ c.in-Ok.is c.in-At.is) read) c.move_on.ensures.moved c.move_on.ensures.own
 
 pub returns-in-Configure-clause-round : goal.returns-in-Configure-clause-round
