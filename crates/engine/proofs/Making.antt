@@ -1,6 +1,6 @@
 -- A plan that makes a step: what is known of its step, and what the engine stands for while its bytes are stored and its record is
 -- appended.
-use Rattle.std.proofs.Common.{◌≡◌, inl, ℕ, List, sym, ◌∙◌, ap, subst, arith, Bool, false, true, Option, Some, None}
+use Rattle.std.proofs.Common.{◌≡◌, inl, ℕ, sym, ◌∙◌, ap, subst, arith, Bool, false, Option, Some, None}
 use Rattle.std.specs.Prelude.{IsTrue}
 use Rattle.bank.specs.Content.{Image}
 use Rattle.bank.specs.View.{View, IsImage, IsSound, LeavesOnly}
@@ -10,7 +10,7 @@ use Rattle.site_events.specs.declared.event.Event.{Event}
 use Rattle.site_events.specs.declared.reply.Reply.{Reply}
 use Rattle.step_codec.specs.Written.{written}
 use Rattle.site_history.specs.Terms.{Terms}
-use Rattle.site_history.specs.Site.{Fields, Site, held_runs}
+use Rattle.site_history.specs.Site.{Fields, Site}
 use Rattle.site_history.specs.Steps.{HistoryStep, put_runs}
 use Rattle.site_history.specs.Running.{Running, nothing_runs, after_fault}
 use Rattle.site_history.specs.Histories.{after, IsHistory}

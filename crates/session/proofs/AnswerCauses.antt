@@ -1,5 +1,5 @@
 -- Which answers are a cause of a status.
-use Rattle.std.proofs.Common.{◌≡◌, ◌⊎◌, inl, inr, ℕ, ◌+◌, ◌≤◌, List, length, refl, ap, arith, Bool, true, false, not, cond, Option, Some, None, IfSome}
+use Rattle.std.proofs.Common.{◌≡◌, ◌⊎◌, inl, inr, ℕ, ◌+◌, ◌≤◌, refl, ap, arith, Bool, true, false, cond}
 use Rattle.base.specs.Causes.{AreCounted}
 use Rattle.bank.specs.Content.{Content}
 use Rattle.site_events.specs.declared.event.Event.{Event}

@@ -1,6 +1,5 @@
 -- What a crash leaves holds each step that was acknowledged.
-use Rattle.std.proofs.Common.{◌≡◌, ◌⊎◌, inl, inr, ℕ, ◌+◌, List, [], ◌∷◌, ◌++◌, length, take, refl, sym, ◌∙◌, ap, subst, arith, Bool, true, false, Option, Some, None, Result, Ok, Err, append_assoc}
-use Rattle.std.proofs.lemmas.List.{append-nil}
+use Rattle.std.proofs.Common.{◌≡◌, ◌⊎◌, inl, inr, ℕ, ◌+◌, List, [], ◌∷◌, ◌++◌, length, take, refl, sym, ◌∙◌, ap, subst, arith, Bool, true, false, Option, Result, Ok, Err}
 use Rattle.std.proofs.Math.Seq.{take-append_seam}
 use Rattle.outside.specs.declared.folder.NamedText.{NamedText}
 use Rattle.bank.specs.Content.{Content, Image}
@@ -15,7 +14,7 @@ use Rattle.site_history.specs.Terms.{Terms}
 use Rattle.site_history.specs.Steps.{HistoryStep}
 use Rattle.site_history.specs.Replies.{Answer}
 use Rattle.site_history.specs.Histories.{Begins}
-use Rattle.site_history.specs.Worlds.{World, steps_of, at, at_moment, owing_in, with_step, IsWithOrWithout}
+use Rattle.site_history.specs.Worlds.{World, steps_of, at, at_moment, owing_in}
 use Rattle.site_history.specs.Turns.{answer_in, answered_in, failed_in, moment_of, TurnBy, Course, Goes, Stays, Fails, Owes, course_of, IsReopened, EventTurnBy}
 use Rattle.site_history.specs.Images.{Reads, ReadsAs}
 use Rattle.site_history.proofs.Between.{begins_same, begins_then, begins_with, led_begins}
